@@ -68,7 +68,7 @@ keys_take ranks (suc n) (key ∷ keys) all = (all.0, keys_take ranks n keys all.
 
 -- ---- What a rank gets ----
 
-next_full : (ranks : ℕ) (comms : RankComms) (it : Called) (key : Key) → GroupIs (IsGroupOf ranks) it → key_next comms it ≡ Some key → KeyFull ranks key
+pub next_full : (ranks : ℕ) (comms : RankComms) (it : Called) (key : Key) → GroupIs (IsGroupOf ranks) it → key_next comms it ≡ Some key → KeyFull ranks key
 next_full ranks comms (MakesOfGroup group) key is h =
     subst (λ (k : Key). KeyFull ranks k) (same_Some (OfGroup group (group_count group comms.groups)) key h) is
 next_full ranks comms _ key is h = absurd (none-some key h)
@@ -77,7 +77,7 @@ with_full : (ranks number : ℕ) (comms : RankComms) (o : Option Key) → AllKey
 with_full ranks number comms None all one = all
 with_full ranks number comms (Some key) all one = keys_append ranks comms.keys (key ∷ []) all (one key refl, tt)
 
-mapped_full : (ranks : ℕ) (group : List ℕ) (way : List ℕ → Wave → Key) (o : Option Wave) (key : Key) → ((wave : Wave) → KeyFull ranks (way group wave)) → option_map (way group) o ≡ Some key → KeyFull ranks key
+pub mapped_full : (ranks : ℕ) (group : List ℕ) (way : List ℕ → Wave → Key) (o : Option Wave) (key : Key) → ((wave : Wave) → KeyFull ranks (way group wave)) → option_map (way group) o ≡ Some key → KeyFull ranks key
 mapped_full ranks group way None key full h = absurd (none-some key h)
 mapped_full ranks group way (Some wave) key full h = subst (λ (k : Key). KeyFull ranks k) (same_Some (way group wave) key h) (full wave)
 
@@ -95,7 +95,7 @@ report_full ranks comms report.Apart (Natural number ∷ fields) group is all =
     keys_append ranks comms.keys (Apart group (group_count group comms.apart) ∷ []) all (is, tt)
 report_full ranks comms _ fields group is all = all
 
-makes_group : (ranks : ℕ) (word : CallWord) (group : List ℕ) → GroupFull ranks (CallLine word) group → MakesGroup (IsGroupOf ranks) word group
+pub makes_group : (ranks : ℕ) (word : CallWord) (group : List ℕ) → GroupFull ranks (CallLine word) group → MakesGroup (IsGroupOf ranks) word group
 makes_group ranks call.CommCreateGroup group is = is
 makes_group ranks _ group is = tt
 
@@ -242,10 +242,14 @@ ranks_full run first (suc count) le is =
     keys_append (length run) (keys_at run first) (flat_map (keys_at run) (range_with_len (first + 1) count))
     (keys_at_full run first (omega (arith, le)) is) (ranks_full run (first + 1) count (omega (arith, le)) is)
 
+-- each communicator that the ranks got
+pub got_full : (run : Run) → RunFull run → AllKeys (length run) (flat_map (keys_at run) (ranks_of run))
+got_full run is = ranks_full run 0 (length run) (omega arith) is
+
 pub numbered_full : (run : Run) → RunFull run → AllKeys (length run) (numbered_keys run)
 numbered_full run is = (
   world_group (length run) is.fits.0,
   keys_take (length run) GREATEST_COMM (each_once [] (filter (is_named run) (flat_map (keys_at run) (ranks_of run))))
       (keys_once (length run) [] (filter (is_named run) (flat_map (keys_at run) (ranks_of run)))
-      (keys_filter (length run) (is_named run) (flat_map (keys_at run) (ranks_of run)) (ranks_full run 0 (length run) (omega arith) is))),
+      (keys_filter (length run) (is_named run) (flat_map (keys_at run) (ranks_of run)) (got_full run is))),
 )

@@ -35,9 +35,15 @@ pub mod HeadTexts
 pub mod SameLemmas
 pub mod EndLemmas
 pub mod EndWords
+pub mod RightLines
 pub mod JournalEnds
 pub mod FreeLemmas
 pub mod PlainLemmas
 pub mod PlainSteps
 pub mod SoFarLemmas
 pub mod SoFarSteps
+pub mod NewNumbers
+pub mod NewSteps
+pub mod OutcomesOnce
+pub mod CommGroups
+pub mod FitLemmas

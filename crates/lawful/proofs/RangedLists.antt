@@ -87,7 +87,7 @@ pub record EntryFull (run : Run) (placed : Placed) : Type 0 where
   pub lines : LinesFull (length run) placed.journal.lines
   pub ok : CalledOk placed.called
 
-abbrev EntriesFull : Run → List Placed → Type 0
+abbrev pub EntriesFull : Run → List Placed → Type 0
 EntriesFull run [] = ⊤
 EntriesFull run (placed ∷ entries) = EntryFull run placed × EntriesFull run entries
 
@@ -112,7 +112,7 @@ in_full : (run : Run) (rank : ℕ) (o : Option Journal) → RunFull run → ((jo
 in_full run rank None is full = tt
 in_full run rank (Some journal) is full = from_full run rank journal 2 (comms_first rank) journal.lines is (full journal refl) (full journal refl)
 
-entries_full : (run : Run) (rank : ℕ) → RunFull run → EntriesFull run (entries_at run rank)
+pub entries_full : (run : Run) (rank : ℕ) → RunFull run → EntriesFull run (entries_at run rank)
 entries_full run rank is = in_full run rank (journal_at run rank) is (λ journal h. journal_at_full run rank journal is h)
 
 -- ---- Messages ----
@@ -180,10 +180,10 @@ steps_in run choice placed full entry can = by_ranged run choice placed (number_
 
 -- ---- Lists ----
 
-abbrev StepsOk : List Step → Type 0
+abbrev pub StepsOk : List Step → Type 0
 StepsOk steps = AreSaid steps × AreSteps Ranged steps
 
-abbrev OutcomeOk : Outcome → Type 0
+abbrev pub OutcomeOk : Outcome → Type 0
 OutcomeOk (GoesOn steps) = StepsOk steps
 OutcomeOk (Ends steps end why) = StepsOk steps
 
@@ -196,7 +196,7 @@ end_ok : (run : Run) (choice : Choice) (placed : Placed) (b : Bool) → StepsOk 
 end_ok run choice placed true ok = ((tt, tt), (tt, tt))
 end_ok run choice placed false ok = ok
 
-outcome_ok : (run : Run) (choice : Choice) (placed : Placed) (o : Option Why) → why_at run placed ≡ o → RunFull run → EntryFull run placed → OutcomeOk (outcome_by run choice placed o)
+pub outcome_ok : (run : Run) (choice : Choice) (placed : Placed) (o : Option Why) → why_at run placed ≡ o → RunFull run → EntryFull run placed → OutcomeOk (outcome_by run choice placed o)
 outcome_ok run choice placed (Some why) is full entry = before_ok run choice placed placed.called why is full entry
 outcome_ok run choice placed None is full entry =
     end_ok run choice placed (is_end placed.called) (steps_said run choice placed, steps_in run choice placed full entry (can_at run placed (rw is refl)))
@@ -286,26 +286,44 @@ split_in run rank colour (key ∷ keys) is all short =
     (rw (le-leb colour GREATEST_COLOUR (omega (arith, short)), rank_low run rank key (full_size run key is all.0), new_low run key (number_of run key) refl) refl)
     (split_in run rank (colour + 1) keys is all.1 (omega (arith, short)))
 
-splits_in : (run : Run) (rank place : ℕ) (lines : List (List Key)) → RunFull run → AllLines (length run) lines → sizes lines ≤ GREATEST_COLOUR → AllRanged place (map (preface_split run rank 0) lines)
-splits_in run rank place [] is all short = tt
-splits_in run rank place (line ∷ lines) is all short =
-    ((λ within. split_in run rank 0 line is all.0 (omega (arith, short))), splits_in run rank (place + 1) lines is all.1 (omega (arith, short)))
+record PrefaceOk (run : Run) : Type 0 where
+  lines : AllLines (length run) (preface_lines run)
+  short : sizes (preface_lines run) ≤ GREATEST_COLOUR
 
-first_ranged : (run : Run) (rank : ℕ) → RunFull run → InRanges (progress_first run rank)
-first_ranged run rank is =
-    let no_call = λ (key : Key). not (is_of_call key) in
-    let short : sizes (preface_lines run) ≤ GREATEST_COLOUR = few (sizes (preface_lines run)) (length (preface_keys run)) (length (numbered_keys run))
-    (puts_sizes (length run) (preface_keys run) []) (filter_short (λ (key : Key). not (is_of_call key)) (numbered_keys run)) (few_numbered run) in
-    let lines : AllLines (length run) (preface_lines run) = puts_lines (length run) (preface_keys run) []
-    (keys_filter (length run) (λ (key : Key). not (is_of_call key)) (numbered_keys run) (numbered_full run is)) tt in
-    record {
-      ranged = subst (λ (calls : List Call). AllRanged 0 calls) (sym (plain_calls 0 (preface_of run rank))) (splits_in run rank 0 (preface_lines run) is lines short);
-      low = zero_le (length (calls_in (progress_first run rank)));
-    }
+preface_ok : (run : Run) → RunFull run → PrefaceOk run
+preface_ok run is = record {
+  lines = puts_lines (length run) (preface_keys run) []
+      (keys_filter (length run) (λ (key : Key). not (is_of_call key)) (numbered_keys run) (numbered_full run is)) tt;
+  short = few (sizes (preface_lines run)) (length (preface_keys run)) (length (numbered_keys run)) (puts_sizes (length run) (preface_keys run) [])
+      (filter_short (λ (key : Key). not (is_of_call key)) (numbered_keys run)) (few_numbered run);
+}
   where
     few : (a b c : ℕ) → a ≡ b + 0 → b ≤ c → c ≤ GREATEST_COMM + 1 → a ≤ GREATEST_COLOUR
     few a b c ab bc cg = omega (arith, ab, bc, cg)
 
+splits_in : (run : Run) (rank : ℕ) (lines : List (List Key)) → RunFull run → AllLines (length run) lines → sizes lines ≤ GREATEST_COLOUR → list_all in_ranges (map (preface_split run rank 0) lines) ≡ true
+splits_in run rank [] is all short = refl
+splits_in run rank (line ∷ lines) is all short =
+    rw (split_in run rank 0 line is all.0 (omega (arith, short)), splits_in run rank lines is all.1 (omega (arith, short))) refl
+
+-- each line of the preface is in its ranges
+pub preface_in : (run : Run) (rank : ℕ) → RunFull run → list_all in_ranges (preface_of run rank) ≡ true
+preface_in run rank is =
+    let ok = preface_ok run is in
+    splits_in run rank (preface_lines run) is ok.lines ok.short
+
+ranged_in : (place : ℕ) (calls : List Call) → list_all in_ranges calls ≡ true → AllRanged place calls
+ranged_in place [] all = tt
+ranged_in place (call ∷ calls) all =
+    let parts = and_parts (in_ranges call) (list_all in_ranges calls) all in
+    ((λ within. parts.0), ranged_in (place + 1) calls parts.1)
+
+first_ranged : (run : Run) (rank : ℕ) → RunFull run → InRanges (progress_first run rank)
+first_ranged run rank is = record {
+  ranged = subst (λ (calls : List Call). AllRanged 0 calls) (sym (plain_calls 0 (preface_of run rank))) (ranged_in 0 (preface_of run rank) (preface_in run rank is));
+  low = zero_le (length (calls_in (progress_first run rank)));
+}
+  where
     zero_le : (n : ℕ) → 0 ≤ n
     zero_le n = omega arith
 

@@ -10,7 +10,8 @@ use Rattle.journals.specs.Journal.{Journal, Fault}
 use Rattle.closing.specs.Entries.{Run, journal_at}
 use Rattle.closing.specs.Journals.{RankFault, journal_of, journal_if, journal_from, put_first, journals_from, after_first, run_of}
 use Rattle.lawful.proofs.LineFacts.{LinesFit, journal_fits}
-use Rattle.lawful.proofs.JournalEnds.{OnlyLastEnds, journal_ends}
+use Rattle.lawful.proofs.RightLines.{AreRight, journal_right}
+use Rattle.lawful.proofs.JournalEnds.{OnlyLastEnds, only_last}
 
 -- a test that the lines of each journal of a rank pass that was read
 abbrev Given : (ℕ → List Line → Type 0) → Type 0
@@ -103,13 +104,17 @@ of_fits rank first bytes journal is = journal_fits rank first (whole_lines (text
 pub lines_of_rank : (bytes : List ℕ) (texts : ℕ → Option (List ℕ)) (run : Run) → run_of bytes texts ≡ Ok run → (rank : ℕ) (journal : Journal) → journal_at run rank ≡ Some journal → LinesFit rank journal.lines
 lines_of_rank = journal_passes LinesFit of_fits
 
-abbrev EndsOnce : ℕ → List Line → Type 0
-EndsOnce rank lines = OnlyLastEnds lines
+abbrev RightLines : ℕ → List Line → Type 0
+RightLines rank lines = AreRight [] lines
 
-of_ends : Given EndsOnce
+of_right : Given RightLines
 unfolding journal_of
-of_ends rank first bytes journal is = journal_ends rank first (whole_lines (text_of bytes)) journal is
+of_right rank first bytes journal is = journal_right rank first (whole_lines (text_of bytes)) journal is
+
+-- each line of a journal of a run that was read is right after those before it
+pub right_of_rank : (bytes : List ℕ) (texts : ℕ → Option (List ℕ)) (run : Run) → run_of bytes texts ≡ Ok run → (rank : ℕ) (journal : Journal) → journal_at run rank ≡ Some journal → AreRight [] journal.lines
+right_of_rank = journal_passes RightLines of_right
 
 -- in a journal of a run that was read nothing comes after a finalize or exit
 pub ends_of_rank : (bytes : List ℕ) (texts : ℕ → Option (List ℕ)) (run : Run) → run_of bytes texts ≡ Ok run → (rank : ℕ) (journal : Journal) → journal_at run rank ≡ Some journal → OnlyLastEnds journal.lines
-ends_of_rank = journal_passes EndsOnce of_ends
+ends_of_rank bytes texts run h rank journal is = only_last [] journal.lines (right_of_rank bytes texts run h rank journal is)

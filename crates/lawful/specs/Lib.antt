@@ -1,4 +1,5 @@
 pub mod Closed
+pub mod Fit
 pub mod Free
 pub mod Laws
 pub mod Plain

@@ -1,6 +1,7 @@
 //! The laws that are proved.
 
 ghost use Rattle.lawful.specs.Closed.{EachRecordingIsClosed, OneNumberIsOneCommunicator, NoOtherFault, EachListInRangesReadsBack, EachHeadIsAHead, EachListIsInRanges};
+ghost use Rattle.lawful.specs.Fit.{EachRunThatWasReadIsFit};
 ghost use Rattle.lawful.specs.Free.{EachFinalizeIsAnEnd, WhatIsLeftIsOpen, WhatIsNotLeftIsAnEnd, WhatIsFreeIsWhole};
 ghost use Rattle.lawful.specs.Laws.{EachRecordingIsLawful, EachRecordingReadsBack};
 ghost use Rattle.lawful.specs.Plain.{EachPlainJournalStaysTheSame};
@@ -90,4 +91,9 @@ pub fn each_plain_journal_stays_the_same()
 /// Where the journal of plain calls goes on, the list begins with the records so far.
 pub fn what_is_so_far_stays()
     ensures { WhatIsSoFarStays }
+{}
+
+/// What the making of a recording rests on is true of each run that was read.
+pub fn each_run_that_was_read_is_fit()
+    ensures { EachRunThatWasReadIsFit }
 {}

@@ -20,6 +20,11 @@
 //! `ReadLemmas` its text. `EndLemmas` has how lists end, `EndWords` and `JournalEnds` the last lines of journals,
 //! `FreeLemmas` all lists; `SameLemmas` has numbers of communicators, `PlainLemmas` what plain calls add, `PlainSteps`
 //! their lists, `SoFarLemmas` and `SoFarSteps` those of a journal that goes on.
+//!
+//! `specs/Fit` says that what the making of a recording rests on is true of each run that was read. `RightLines` says that
+//! no line has a fault by those before it, `OutcomesOnce` that it is reported once what came of a request. `NewNumbers` has
+//! the requests that lines start, `NewSteps` steps that start them, `CommGroups` the groups of communicators, `FitLemmas`
+//! all together.
 #![tactic(auto)]
 
 pub mod laws;
