@@ -20,6 +20,9 @@ pub mod GrownLemmas
 pub mod StepsLemmas
 pub mod FollowLemmas
 pub mod EntryLemmas
+pub mod WaitingLemmas
+pub mod TakeLemmas
+pub mod MakerLemmas
 pub mod WalkingLemmas
 pub mod TableLemmas
 pub mod PlaceListLemmas
@@ -38,3 +41,17 @@ pub mod MadeKeyLemmas
 pub mod BringLemmas
 pub mod KeptLemmas
 pub mod KnownLemmas
+pub mod NamedLemmas
+pub mod LastWaitLemmas
+pub mod WaveKeyLemmas
+pub mod InferLemmas
+pub mod SurveyLemmas
+pub mod RankLemmas
+pub mod PartLemmas
+pub mod PlacedLemmas
+pub mod SoFarLemmas
+pub mod LineLemmas
+pub mod EnteredLemmas
+pub mod RankwiseLemmas
+pub mod WalkLemmas
+pub mod EntryCases

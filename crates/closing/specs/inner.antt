@@ -17,4 +17,7 @@ pub mod Table
 pub mod Holds
 pub mod Surveyed
 pub mod Numbered
+pub mod Makers
 pub mod FitComms
+pub mod Rankwise
+pub mod SoFar
