@@ -5,6 +5,7 @@ pub mod Entry
 pub mod Fit
 pub mod Groups
 pub mod RankComms
+pub mod Recordings
 pub mod Journals
 pub mod Keys
 pub mod Made

@@ -18,3 +18,5 @@ pub mod Holds
 pub mod Surveyed
 pub mod Numbered
 pub mod FitComms
+pub mod Rankwise
+pub mod SoFar

@@ -93,7 +93,9 @@ impl Walk {
         run: &Communicators,
         at: &At<'_>,
         it: &Called<'_>,
-    ) -> Result<(), Stop> {
+    ) -> Result<(), Stop>
+        ensures same { self.new ≡ record self.old { list = self.new.list } }
+    {
         let comm = at.number_if(true)?;
         let call = match new_one(run, at) {
             Some(new) => self.giving_line(run, at, it, new)?,
