@@ -20,6 +20,9 @@ pub mod GrownLemmas
 pub mod StepsLemmas
 pub mod FollowLemmas
 pub mod EntryLemmas
+pub mod WaitingLemmas
+pub mod TakeLemmas
+pub mod MakerLemmas
 pub mod WalkingLemmas
 pub mod TableLemmas
 pub mod PlaceListLemmas
@@ -38,3 +41,9 @@ pub mod MadeKeyLemmas
 pub mod BringLemmas
 pub mod KeptLemmas
 pub mod KnownLemmas
+pub mod NamedLemmas
+pub mod LastWaitLemmas
+pub mod WaveKeyLemmas
+pub mod InferLemmas
+pub mod SurveyLemmas
+pub mod RankLemmas

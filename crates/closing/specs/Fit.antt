@@ -10,6 +10,7 @@ use Rattle.journals.specs.declared.word.ReportWord.TheVariants as report
 use Rattle.journals.specs.declared.word.Word.{Word}
 use Rattle.journals.specs.declared.word.Word.TheVariants.{Report}
 use Rattle.closing.specs.Entries.{Run, Placed, lines_at, entries_at}
+use Rattle.closing.specs.FitComms.{HasFitComms}
 use Rattle.closing.specs.Numbers.{preface_of}
 use Rattle.closing.specs.Reported.{done_in, says_gone, says_kept}
 use Rattle.closing.specs.Steps.{Own, Whole, ReceiveHalf, Progress, Step, Does, Starts, number_in, after_step, after_steps}
@@ -76,6 +77,8 @@ pub record IsFit (run : Run) (choice : Choice) : Type 0 where
   -- there are no more ranks than a run may have, nor members of a communicator that a call is on
   pub ranks : length run ≤ MOST_RANKS
   pub sizes : (rank : ℕ) (placed : Placed) → Contains (entries_at run rank) placed → size_at run placed ≤ MOST_RANKS
+  -- each communicator is of ranks of the run, and a report of one gives its number
+  pub comms : HasFitComms run
   -- the lines of each preface are records of the trace
   pub prefaces : (rank : ℕ) → rank < length run → IsTrue (list_all in_ranges (preface_of run rank))
   -- so are those of each entry, and each request that it starts is new

@@ -17,4 +17,4 @@ pub mod Table
 pub mod Holds
 pub mod Surveyed
 pub mod Numbered
-pub mod FitComms
+pub mod Makers

@@ -1,12 +1,15 @@
 //! The list of a rank, made entry by entry of its journal.
 
-ghost use Rattle.std.specs.Prelude.{◌≡◌, ◌+◌, ◌<◌, [], ◌++◌, List as Items};
+ghost use Rattle.std.specs.Prelude.{◌≡◌, ◌+◌, ◌<◌, [], ◌++◌, ℕ, List as Items, OnOk};
 ghost use Rattle.closing.specs.inner.Lists.{Stands};
 ghost use Rattle.closing.specs.Steps.{Progress};
 ghost use Rattle.closing.specs.Endings.{breaks_off};
 ghost use Rattle.closing.specs.Recording.{is_end};
 ghost use Rattle.closing.specs.inner.Views.{called_view};
-ghost use Rattle.closing.specs.inner.Walked.{fields_of_line, number_at, number_or, size_at};
+ghost use Rattle.closing.specs.inner.Makers.{MayMake};
+ghost use Rattle.closing.specs.inner.Standings.{id_in};
+ghost use Rattle.closing.specs.inner.Walked.{LateCall, Meets, TakesCall, choice_view, fields_of_line, id_after, number_at, number_or, size_at};
+ghost use Rattle.closing.specs.inner.Walks.{Spot};
 
 use crate::called::{Called, read_call};
 use crate::choice::{Calls, Choice};
@@ -396,7 +399,15 @@ impl Walk {
         lines: &Lines,
         at: &At<'_>,
         it: &Called<'_>,
-    ) -> Result<(), Stop> {
+    ) -> Result<(), Stop>
+        ensures same { self.new ≡ record self.old { list = self.new.list; requests = self.new.requests; ids = self.new.ids; wanted = self.new.wanted; late = self.new.late } }
+        ensures outcomes { self.new.requests.outcomes ≡ self.old.requests.outcomes }
+        ensures ids { OnOk result ((request : ℕ) → id_in self.new.requests request ≡ id_after (called_view it.now) (id_in self.old.requests) request) }
+        ensures takes { (spot : Spot) → Meets spot lines.now self.old.requests at.now it.now → MayMake spot run.now self.old.rank at.now it.now →
+            TakesCall (choice_view self.old.choice) spot (called_view it.now) result self.old.list self.new.list }
+        ensures late { OnOk result ((spot : Spot) → Meets spot lines.now self.old.requests at.now it.now →
+            LateCall (choice_view self.old.choice) spot (called_view it.now) self.old.list self.old.late.items self.new.late.items) }
+    {
         match it {
             Called::Sends(mode, sent) => self.sends(at, *mode, sent),
             Called::StartsSend(own, mode, sent) => self.starts_send(at, *own, *mode, sent),
@@ -420,10 +431,10 @@ impl Walk {
             }
             Called::StartsDuplicate(own, _) => self.starts_duplicate(at, *own),
             Called::MakesOfGroup(_) => self.makes_of_group(at),
-            Called::Duplicates(_) | Called::Splits(..) | Called::Makes(_) => {
-                self.makes(run, at, it)
-            }
-            _ => self.take_wait(at, it),
+            Called::Duplicates(_) => self.makes(run, at, it),
+            Called::Splits(..) => self.makes(run, at, it),
+            Called::Makes(_) => self.makes(run, at, it),
+            _ => self.take_wait(lines, at, it),
         }
     }
 }

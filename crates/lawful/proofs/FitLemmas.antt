@@ -30,6 +30,7 @@ use Rattle.lawful.proofs.JournalEnds.{OnlyLastEnds, only_last}
 use Rattle.lawful.proofs.OutcomesOnce.{once_more, lines_formed}
 use Rattle.lawful.proofs.CommGroups.{SmallGroup, SmallGroups, small_groups}
 use Rattle.lawful.proofs.EndWords.{end_word}
+use Rattle.lawful.proofs.CommsFit.{fit_comms}
 use Rattle.closing.specs.Fit.{FitsOn, EntriesFit}
 use Rattle.closing.specs.Fit.{AreFormed, report_count}
 use Rattle.closing.specs.Fit.{AllFit, steps_in}
@@ -124,6 +125,7 @@ each_run_that_was_read_is_fit run choice read =
       ranks = full.fits.1;
       sizes = λ rank placed there.
           le_le (size_at run placed) (length run) MOST_RANKS (small_there run (entries_at run rank) placed there.0 (small_groups run rank full) there.1 there.2) full.fits.1;
+      comms = fit_comms run read;
       prefaces = λ rank within. preface_in run rank full;
       entries = λ rank within. in_fits run choice rank (journal_at run rank) full (right rank) (entries_full run rank full);
       formed = λ rank. in_formed (length run) (journal_at run rank) (λ journal h. journal_at_full run rank journal full h);

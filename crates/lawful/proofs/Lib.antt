@@ -46,4 +46,5 @@ pub mod NewNumbers
 pub mod NewSteps
 pub mod OutcomesOnce
 pub mod CommGroups
+pub mod CommsFit
 pub mod FitLemmas
