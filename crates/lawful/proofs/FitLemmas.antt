@@ -30,10 +30,7 @@ use Rattle.lawful.proofs.JournalEnds.{OnlyLastEnds, only_last}
 use Rattle.lawful.proofs.OutcomesOnce.{once_more, lines_formed}
 use Rattle.lawful.proofs.CommGroups.{SmallGroup, SmallGroups, small_groups}
 use Rattle.lawful.proofs.EndWords.{end_word}
-use Rattle.closing.specs.Fit.{FitsOn, EntriesFit}
-use Rattle.closing.specs.Fit.{AreFormed, report_count}
-use Rattle.closing.specs.Fit.{AllFit, steps_in}
-use Rattle.lawful.specs.Fit.{EachRunThatWasReadIsFit}
+use Rattle.lawful.specs.ScratchFit.{AllFit, steps_in, FitsOn, EntriesFit, AreFormed, report_count, EachRunReadIsFit}
 
 -- ---- Entries ----
 
@@ -116,8 +113,8 @@ small_there run [] placed k small within is = absurd (omega (arith, within))
 small_there run (first ∷ entries) placed zero small within is = subst (λ (it : Placed). SmallGroup run it) is small.0
 small_there run (first ∷ entries) placed (suc k) small within is = small_there run entries placed k small.1 (omega (arith, within)) is
 
-pub each_run_that_was_read_is_fit : EachRunThatWasReadIsFit
-each_run_that_was_read_is_fit run choice read =
+pub each_run_read_is_fit : EachRunReadIsFit
+each_run_read_is_fit run choice read =
     let full = run_full read.first read.texts run read.is_read in
     let right = λ (rank : ℕ) (journal : Journal) (h : journal_at run rank ≡ Some journal). right_of_rank read.first read.texts run read.is_read rank journal h in
     record {

@@ -1,18 +1,20 @@
 -- Steps that start requests of new numbers: each record can be made, and no request that it starts is active.
-use Rattle.std.proofs.Common.{◌≡◌, ℕ, ◌==◌, Bool, true, false, Option, Some, None, if◌then◌else◌, List, [], ◌∷◌, ◌++◌, refl, sym, inl, inr}
+use Rattle.std.proofs.Common.{◌≡◌, ℕ, ◌==◌, not, Bool, true, false, Option, Some, None, if◌then◌else◌, List, [], ◌∷◌, ◌++◌, refl, sym, inl, inr}
+use Rattle.std.specs.Prelude.{⊤}
 use Rattle.std.specs.Option.{option_map_or}
 use Rattle.std.proofs.lemmas.Bool.{cases_Bool}
 use Rattle.std.proofs.lemmas.Option.{none-some}
 use Rattle.mpicall.specs.declared.call.Call.{Call}
 use Rattle.mpicall.specs.declared.call.Mode.TheVariants.{Standard}
 use Rattle.mpicall.specs.declared.call.Kind.TheVariants as kind
+use Rattle.mpicall.specs.declared.limits.TheConstants.{MOST_REQUESTS}
 use Rattle.closing.specs.Called.{Called, Sent, Sends, StartsSend, Receives, StartsReceive, Exchanges, StartsExchange, Probes, ProbesMatching, Collects, StartsCollective, Duplicates, StartsDuplicate, Splits, Makes, MakesOfGroup}
 use Rattle.closing.specs.Entries.{Run, Placed}
 use Rattle.closing.specs.Reported.{Message, is_gone}
 use Rattle.closing.specs.Steps.{Id, Own, Whole, ReceiveHalf, Progress, Step, Does, Starts, WaitsForAll, WaitsForOne, PutsOff, WaitsForLate, same_id, number_in, without, without_all, numbers_of, wait_one, after_step, after_steps}
-use Rattle.closing.specs.Endings.{number_at}
-use Rattle.closing.specs.Entry.{Choice, Here, send, start_send, receive, start_receive, exchange, probe, start_collective, kind_of, is_past, here_at, does, does_both, starts, knowing, unless_past, on_comm, on_none, steps_by, steps_of}
-use Rattle.closing.specs.Recording.{Outcome, GoesOn, is_end, steps_before, outcome_by}
+use Rattle.closing.specs.Endings.{number_at, why_at}
+use Rattle.closing.specs.Entry.{Choice, Here, send, start_send, receive, start_receive, exchange, probe, start_collective, kind_of, is_past, here_at, does, does_both, starts, does_collective, starts_collective, knowing, unless_past, on_comm, on_none, steps_by, steps_of}
+use Rattle.closing.specs.Recording.{Outcome, GoesOn, Ends, is_end, steps_before, outcome_by}
 use Rattle.closing.specs.declared.why.Why.{Why}
 use Rattle.closing.specs.declared.why.Why.TheVariants.{NeverReported}
 use Rattle.lawful.proofs.StepLemmas.{AreSaid}
@@ -20,7 +22,7 @@ use Rattle.lawful.proofs.PassLemmas.{AreSteps}
 use Rattle.lawful.proofs.RangeLemmas.{Ranged}
 use Rattle.lawful.proofs.NameLemmas.{none_names}
 use Rattle.lawful.proofs.NewNumbers.{IsNew, StartsNew}
-use Rattle.closing.specs.Fit.{AllFit, steps_in}
+use Rattle.lawful.specs.ScratchFit.{AllFit, steps_in}
 
 -- ---- Steps whose own requests are new ----
 

@@ -1,23 +1,23 @@
 -- In a journal that was read it is reported at most once what came of a request, in the form of its report.
-use Rattle.std.proofs.Common.{◌≡◌, ℕ, ◌≤◌, ◌+◌, ◌==◌, ◌||◌, ◌&&◌, not, Bool, true, false, Some, None, is_some, cond, if◌then◌else◌, List, [], ◌∷◌, ◌++◌, length, refl, sym, ap, subst, ◌∙◌, arith, inl, inr, eqb-true}
-use Rattle.std.specs.List.{list_any}
+use Rattle.std.proofs.Common.{◌≡◌, ℕ, ◌≤◌, ◌+◌, ◌==◌, ◌||◌, ◌&&◌, not, Bool, true, false, Option, Some, None, is_some, cond, if◌then◌else◌, List, [], ◌∷◌, ◌++◌, length, refl, sym, ap, subst, ◌∙◌, arith, inl, inr, eqb-true}
+use Rattle.std.specs.List.{list_all, list_any}
 use Rattle.std.proofs.lemmas.Bool.{cases_Bool, cond-true, cond-false, false≢true, and_parts, or_parts, not-true}
 use Rattle.std.proofs.lemmas.List.Folds.{list_any-append}
 use Rattle.std.proofs.lemmas.List.Sums.{sum_by-cons}
 use Rattle.journals.specs.Lines.{Line}
 use Rattle.journals.specs.Entries.{numbers_by, is_request, last_entry}
-use Rattle.journals.specs.Known.{is_among, knows_request, awaits_any, is_cancelled, is_outcome, has_outcome}
-use Rattle.journals.specs.Faults.{may_follow, may_be_of, names_unfit}
+use Rattle.journals.specs.Known.{is_among, knows_request, knows_message, awaits_any, is_cancelled, is_outcome, has_outcome, are_distinct}
+use Rattle.journals.specs.Faults.{is_free, is_left, is_out_of_place, may_follow, may_be_of, names_unfit}
 use Rattle.journals.specs.inner.Knows.{IsRead}
 use Rattle.journals.specs.declared.field.Field.{Field}
-use Rattle.journals.specs.declared.field.Field.TheVariants.{Natural}
+use Rattle.journals.specs.declared.field.Field.TheVariants.{Natural, Signed, Null, Any, Undefined}
 use Rattle.journals.specs.declared.word.Word.{Word}
-use Rattle.journals.specs.declared.word.Word.TheVariants.{Report}
+use Rattle.journals.specs.declared.word.Word.TheVariants.{Call, Report}
 use Rattle.journals.specs.declared.word.ReportWord.{ReportWord}
 use Rattle.journals.specs.declared.word.ReportWord.TheVariants as report
-use Rattle.closing.specs.Fit.{reports_of, report_count, IsFormed, AreFormed}
+use Rattle.lawful.specs.ScratchFit.{reports_of, report_count, IsFormed, AreFormed}
 use Rattle.lawful.proofs.FullFacts.{LinesFull}
-use Rattle.lawful.proofs.RightLines.{IsRight, AreRight, right_requests}
+use Rattle.lawful.proofs.RightLines.{IsRight, AreRight, RightRequests, right_requests}
 
 -- ---- What a report of an outcome needs ----
 
@@ -36,12 +36,12 @@ any_passes test (one ∷ numbers) number none among =
     ]
 
 -- a report in its place is of a request that can have it
-may_be : (before : List Line) (word : ReportWord) (fields : List Field) (request : ℕ) → IsRight before (record { word = Report word; fields = fields }) → is_among request (numbers_by is_request (record { word = Report word; fields = fields })) ≡ true → may_be_of word before request ≡ true
+pub may_be : (before : List Line) (word : ReportWord) (fields : List Field) (request : ℕ) → IsRight before (record { word = Report word; fields = fields }) → is_among request (numbers_by is_request (record { word = Report word; fields = fields })) ≡ true → may_be_of word before request ≡ true
 may_be before word fields request is among =
     let line : Line = record { word = Report word; fields = fields } in
     let parts = or_parts (not (may_follow word (length fields) (last_entry before))) (names_unfit word before line) is.in_place in
     let fits = any_passes (λ (r : ℕ). knows_request before r && not (may_be_of word before r)) (numbers_by is_request line) request parts.1 among in
-    let known = (right_requests before line is).known request among in
+    let known = (and_parts (knows_request before request) (is_left before line.word request) ((right_requests before line is).known request among)).0 in
     known_may (knows_request before request) (may_be_of word before request) known fits
   where
     known_may : (a b : Bool) → a ≡ true → (a && not b) ≡ false → b ≡ true

@@ -1,7 +1,10 @@
 pub mod Closed
-pub mod Fit
 pub mod Free
 pub mod Laws
 pub mod Plain
 pub mod Same
 pub mod SoFar
+pub mod ScratchFit
+pub mod ScratchComms
+pub mod ScratchRequests
+pub mod ScratchTests

@@ -1,8 +1,11 @@
 //! The laws that are proved.
 
 ghost use Rattle.lawful.specs.Closed.{EachRecordingIsClosed, OneNumberIsOneCommunicator, NoOtherFault, EachListInRangesReadsBack, EachHeadIsAHead, EachListIsInRanges};
-ghost use Rattle.lawful.specs.Fit.{EachRunThatWasReadIsFit};
 ghost use Rattle.lawful.specs.Free.{EachFinalizeIsAnEnd, WhatIsLeftIsOpen, WhatIsNotLeftIsAnEnd, WhatIsFreeIsWhole};
+ghost use Rattle.lawful.specs.ScratchFit.{EachRunReadIsFit};
+ghost use Rattle.lawful.specs.ScratchTests.{EachTestFits};
+ghost use Rattle.lawful.specs.ScratchRequests.{EachEntryNamesKnown};
+ghost use Rattle.lawful.specs.ScratchComms.{EachRunReadHasFitComms};
 ghost use Rattle.lawful.specs.Laws.{EachRecordingIsLawful, EachRecordingReadsBack};
 ghost use Rattle.lawful.specs.Plain.{EachPlainJournalStaysTheSame};
 ghost use Rattle.lawful.specs.Same.{OneNumberExactlyIfTheSame, CallsAreOnOneNumberExactlyIfOnOne, EachNumberHasItsGroup};
@@ -93,7 +96,22 @@ pub fn what_is_so_far_stays()
     ensures { WhatIsSoFarStays }
 {}
 
-/// What the making of a recording rests on is true of each run that was read.
-pub fn each_run_that_was_read_is_fit()
-    ensures { EachRunThatWasReadIsFit }
+/// A run that was read is fit for its recording to be made.
+pub fn each_run_read_is_fit()
+    ensures { EachRunReadIsFit }
+{}
+
+/// So are its communicators.
+pub fn each_run_read_has_fit_comms()
+    ensures { EachRunReadHasFitComms }
+{}
+
+/// What entries name was started before them.
+pub fn each_entry_names_known()
+    ensures { EachEntryNamesKnown }
+{}
+
+/// What tests name is what the list has of it.
+pub fn each_test_fits()
+    ensures { EachTestFits }
 {}

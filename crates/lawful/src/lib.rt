@@ -21,10 +21,11 @@
 //! `FreeLemmas` all lists; `SameLemmas` has numbers of communicators, `PlainLemmas` what plain calls add, `PlainSteps`
 //! their lists, `SoFarLemmas` and `SoFarSteps` those of a journal that goes on.
 //!
-//! `specs/Fit` says that what the making of a recording rests on is true of each run that was read. `RightLines` says that
-//! no line has a fault by those before it, `OutcomesOnce` that it is reported once what came of a request. `NewNumbers` has
-//! the requests that lines start, `NewSteps` steps that start them, `CommGroups` the groups of communicators, `FitLemmas`
-//! all together.
+//! What the making of a recording rests on is true of each run that was read. `RightLines` says that no line has a fault by
+//! those before it, and so `OutcomesOnce` that it is reported once what came of a request. `NewNumbers`, `KnownLines` and
+//! `SentRequests` have what lines say of requests, `CalledCases` what calls say. `NewSteps` has steps that start new
+//! requests, `NamedRequests` what waits and tests name, `ActiveSends`, `OwnSteps` and `TestLemmas` what a test finds in the
+//! list. `CommGroups` and `CommsFit` have the groups of communicators, `FitLemmas` all together.
 #![tactic(auto)]
 
 pub mod laws;

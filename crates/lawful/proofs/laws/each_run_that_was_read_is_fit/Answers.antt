@@ -1,5 +1,0 @@
-use Rattle.lawful.proofs.FitLemmas.{each_run_that_was_read_is_fit}
-use Rattle.lawful.proofs.laws.each_run_that_was_read_is_fit.Goals as goal
-
-pub returns : goal.returns
-returns c = each_run_that_was_read_is_fit
