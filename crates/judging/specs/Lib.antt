@@ -1,2 +1,3 @@
+pub mod JournalTexts
 pub mod Judging
 pub mod inner
