@@ -1,6 +1,9 @@
 //! The recording of journals as files: a head, and a trace a rank.
 
-ghost use Rattle.std.specs.Prelude.{◌+◌, ◌≤◌, length, OnOk};
+ghost use Rattle.std.specs.Prelude.{◌≡◌, ◌+◌, ◌≤◌, length, IfErr, OnOk};
+ghost use Rattle.judging.specs.Closing.{IsFaultOfClose};
+ghost use Rattle.judging.specs.inner.Closed.{close_fault, IsOfFiles};
+ghost use Rattle.judging.specs.declared.close.CloseFault.TheVariants.{Memory, Write};
 
 use crate::head::head_text;
 use crate::read::{Journals, ReadFault, read_journals};
@@ -38,24 +41,32 @@ pub enum CloseFault {
 }
 
 impl From<AllocError> for CloseFault {
+    ghost from_gives = { λ _ fault. fault ≡ Memory };
+
     fn from(_fault: AllocError) -> CloseFault {
         CloseFault::Memory
     }
 }
 
 impl<T: Drop> From<AllocFailed<T>> for CloseFault {
+    ghost from_gives = { λ _ fault. fault ≡ Memory };
+
     fn from(_fault: AllocFailed<T>) -> CloseFault {
         CloseFault::Memory
     }
 }
 
 impl From<DeviceFault> for CloseFault {
+    ghost from_gives = { λ _ fault. fault ≡ Write };
+
     fn from(_fault: DeviceFault) -> CloseFault {
         CloseFault::Write
     }
 }
 
 impl From<ReadFault> for CloseFault {
+    ghost from_gives = { λ it fault. fault ≡ close_fault it };
+
     fn from(fault: ReadFault) -> CloseFault {
         match fault {
             ReadFault::Memory => CloseFault::Memory,
@@ -97,7 +108,9 @@ fn write_trace<O: Output>(
     recording: &mut Recording,
     rank: u16,
     out: &mut O,
-) -> Result<(), CloseFault> {
+) -> Result<(), CloseFault>
+    ensures { IfErr result IsOfFiles }
+{
     let mut page = Page::new();
     for _ in 0..u32::MAX {
         write_records(&mut page, recording.records(rank), out)?;
@@ -112,11 +125,9 @@ fn write_trace<O: Output>(
 }
 
 /// Writes the head of a recording.
-fn write_head<F: Folder>(
-    alloc: Global,
-    recording: &Recording,
-    folder: &F,
-) -> Result<(), CloseFault> {
+fn write_head<F: Folder>(alloc: Global, recording: &Recording, folder: &F) -> Result<(), CloseFault>
+    ensures { IfErr result IsOfFiles }
+{
     let text = head_text(alloc, recording.ranks(), recording.communicators())?;
     let Some(mut out) = folder.head()? else {
         return Err(CloseFault::Write);
@@ -125,7 +136,9 @@ fn write_head<F: Folder>(
     Ok(())
 }
 
-fn write_traces<F: Folder>(recording: &mut Recording, folder: &F) -> Result<(), CloseFault> {
+fn write_traces<F: Folder>(recording: &mut Recording, folder: &F) -> Result<(), CloseFault>
+    ensures { IfErr result IsOfFiles }
+{
     for rank in 0..recording.ranks() {
         let Some(mut out) = folder.trace(rank)? else {
             return Err(CloseFault::Write);
@@ -142,7 +155,9 @@ pub fn close<J: Journals, F: Folder>(
     choice: Choice,
     folder: &F,
     wait: &impl Wait,
-) -> Result<(), CloseFault> {
+) -> Result<(), CloseFault>
+    ensures { IfErr result (IsFaultOfClose (J.known journals.now)) }
+{
     let journals = read_journals(alloc, journals, wait)?;
     let mut recording = Recording::of(alloc, journals, choice)?;
     if !folder.make() {

@@ -1,5 +1,10 @@
 //! Which findings the report of journals has.
 
+ghost use Rattle.std.specs.Prelude.{◌≡◌, IfOk};
+ghost use Rattle.closing.specs.Recordings.{choice_in};
+ghost use Rattle.judging.specs.Judging.{reported_of};
+ghost use Rattle.judging.specs.inner.Turns.{IsDone};
+
 use closing::choice::{Calls, Choice};
 use closing::recording::Recording;
 use findings::finding::Finding;
@@ -60,7 +65,10 @@ pub(crate) fn reported_findings(
     recording: &Recording,
     choice: Choice,
     findings: &[Finding],
-) -> Result<Vec<Finding>, AllocError> {
+) -> Result<Vec<Finding>, AllocError>
+    ensures { IfOk result (λ reported. IsDone recording.now → recording.now.choice ≡ choice_in choice →
+        reported.items ≡ reported_of recording.now.run recording.now.choice findings.now) }
+{
     if choice.calls == Calls::Went {
         return Ok(Vec::new(alloc));
     }
