@@ -20,3 +20,13 @@ pub mod StaysLemmas
 pub mod DeadlockLemmas
 pub mod VerdictLemmas
 pub mod CauseLemmas
+pub mod PendingLemmas
+pub mod PendingRows
+pub mod ScenesLemmas
+pub mod BucketLemmas
+pub mod FreeLemmas
+pub mod FilledLemmas
+pub mod PendingViewLemmas
+pub mod LaterLemmas
+pub mod ComingLemmas
+pub mod PendingStaysLemmas

@@ -1,8 +1,11 @@
 pub mod Stuck
 pub mod Waits
 pub mod Held
+pub mod Pending
+pub mod PendingHeld
 pub mod Causes
 pub mod Graphs
 pub mod Verdicts
 pub mod Stays
+pub mod PendingStays
 pub mod inner

@@ -10,6 +10,10 @@
 //! - Each held rank stands where it does, whatever calls stand in the place of an `open` (`Stays`).
 //! - `Graph::verdict` answers the verdict: `Hang` exactly if some rank is held, else `Unfinished` if some list
 //!   was left open (`Verdicts`). Where none was, exactly the stuck ranks are held.
+//! - `free::held_by_pending` answers the held ranks where it is known in which calls ranks were when their lists were
+//!   left open, and which receives a message may have met (`Pending`, `PendingHeld`). They are the greatest set in
+//!   which no rank may move on while all of them stay, and each stands where it does, whether sinks are met or not and
+//!   however pending calls come back (`PendingStays`). Where nothing of the kind is known they are those of `of`.
 //! - Its findings are what else is wrong with the recording, as the crate `findings` defines them.
 //! - Laws, each on a function that does nothing: the unmet needs are those needs of the present call that
 //!   aren't met and no others; each stuck rank has one, no other rank has, and who is waited for at a place is
@@ -29,9 +33,13 @@
 #![tactic(auto)]
 
 pub mod cause;
+pub mod free;
 pub mod graph;
 pub mod loose;
+mod may_move;
 pub mod next_hop;
+pub mod pending;
+mod spares;
 pub mod standing;
 pub mod unmet;
 pub mod verdict;
