@@ -158,7 +158,7 @@ journal_named rank None n placed key e f = absurd (cc (e))
 journal_named rank (Some journal) n placed key e f = lines_named rank journal 2 (comms_first rank) journal.lines (first_sound rank) n placed key e f
 
 -- a rank of the run
-rank_at : (count rank : ℕ) → rank < count → slice_get (range_with_len 0 count) rank ≡ Some rank
+pub rank_at : (count rank : ℕ) → rank < count → slice_get (range_with_len 0 count) rank ≡ Some rank
 rank_at count rank small =
     let within : rank < length (range_with_len 0 count) = subst (λ n. rank < n) (sym (length-range_with_len 0 count)) small in
     slice_get-get_or (range_with_len 0 count) rank 0 within ∙ ap Some (get_or-range_with_len 0 count rank 0 small ∙ zero-add rank)

@@ -1,5 +1,5 @@
 -- What journals stand for. No public clause cites it yet.
-pub mod Left
+pub mod Freed
 pub mod Views
 pub mod Words
 pub mod Outcomes
@@ -15,6 +15,9 @@ pub mod Given
 pub mod Prefaces
 pub mod Table
 pub mod Holds
+pub mod Pending
 pub mod Surveyed
 pub mod Numbered
-pub mod FitComms
+pub mod Makers
+pub mod Rankwise
+pub mod SoFar

@@ -1,11 +1,13 @@
 //! What a call line says, by its word: each field by what it is.
 
 ghost use Rattle.std.specs.Prelude.{◌≡◌, length};
-ghost use Rattle.closing.specs.Called.{awaits, awaited, bytes_in, called, comm_of, exchanges, one_number, rooted, sends, sent, splits, starts_awaiting, starts_exchange, starts_rooted, starts_send, starts_unrooted, two_numbers, unrooted, wave_comm};
+ghost use Rattle.closing.specs.Called.{awaits, awaited, bytes_in, called, comm_of, exchanges, naturals_in, one_number, rooted, sends, sent, splits, starts_awaiting, starts_exchange, starts_rooted, starts_send, starts_unrooted, two_numbers, unrooted, wave_comm};
 ghost use Rattle.closing.specs.Called as say;
+ghost use Rattle.closing.specs.Fit.{AreNumbers};
 ghost use Rattle.closing.specs.RankComms.{makes_comm};
 ghost use Rattle.closing.specs.Made.{may_give};
 ghost use Rattle.closing.specs.inner.Views.{awaited_view, called_view, sent_view};
+ghost use Rattle.closing.specs.inner.Walked.{AreRequests};
 ghost use Rattle.closing.specs.inner.Words.{by_collective, by_comm, by_message};
 
 use journals::field::Field;
@@ -404,7 +406,8 @@ fn meets(word: CallWord, fields: &[Field]) -> Called<'_>
 
 /// What a call line says, by its word.
 pub(crate) fn read_call(word: CallWord, fields: &[Field]) -> Called<'_>
-    ensures { called_view result ≡ called word fields.now }
+    ensures says { called_view result ≡ called word fields.now }
+    ensures requests { AreNumbers word (length (naturals_in fields.now)) (length fields.now) → AreRequests result }
 {
     match word {
         CallWord::Finalize => Called::Finalizes,

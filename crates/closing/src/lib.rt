@@ -20,12 +20,9 @@
 //!
 //! Each line is looked at twice: for the communicators of all ranks, and for the records of its own rank.
 //!
-//! What is proved so far: `called` says of each line what `Called` says, `message` what can be, as `Reported`
-//! has it, `keys` and `rank_comms` keep what `Keys` and `RankComms` say, by places, `outcomes` and `standing` what
-//! is reported of requests, and `list` each of `Steps`. In `walk`, an entry that sends, receives, probes or
-//! exchanges, that calls or starts a collective, or that cancels, does the steps of the definitions, or ends the
-//! list for their reason. Not yet: all of `survey`, `numbers` and `recording`, and the other entries of `walk`. Rows
-//! and random runs by a second program say that these are right.
+//! Each is proved against these, and `recording` against `Recordings`. Of a run that is fit, as `Fit` has it, the
+//! records of a rank are the calls of its list in order, each by the line of its entry. The list ends where, and
+//! why, the definitions end it. What `Recording::freed` answers is tested alone.
 //!
 //! Nobody has to believe `inner`.
 #![tactic(auto)]

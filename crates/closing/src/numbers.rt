@@ -13,7 +13,8 @@ ghost use Rattle.closing.specs.Keys.{group_of_key};
 ghost use Rattle.closing.specs.RankComms as waves;
 ghost use Rattle.closing.specs.Entries.{Run, entries_at};
 ghost use Rattle.closing.specs.Entry.{brings, parent_rank};
-ghost use Rattle.closing.specs.inner.FitComms.{HasFitComms};
+ghost use Rattle.closing.specs.FitComms.{HasFitComms};
+ghost use Rattle.closing.specs.Journals.{run_in};
 ghost use Rattle.closing.specs.Made.{inferred_key};
 ghost use Rattle.closing.specs.Numbers.{number_of, preface_lines, preface_split, rank_in};
 ghost use Rattle.closing.specs.declared.keys.Wave as code;
@@ -542,9 +543,15 @@ fn communicators_of(
 
 impl Communicators {
     /// Those of the journals of all ranks.
-    pub fn of(alloc: Global, journals: &[Option<Journal>]) -> Result<Communicators, AllocError> {
+    pub(crate) fn of(
+        alloc: Global,
+        journals: &[Option<Journal>],
+    ) -> Result<Communicators, AllocError>
+        ensures { IfOk result (λ it. HasFitComms (run_in journals.now) → IsNumberedRun (run_in journals.now) it) }
+    {
         let survey = Survey::of(alloc, journals)?;
-        communicators_of(alloc, journals.len(), survey)
+        let kept = communicators_of(alloc, journals.len(), survey)?;
+        Ok(kept)
     }
 
     /// How many have a number, the world counted.

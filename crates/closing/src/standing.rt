@@ -1,13 +1,14 @@
 //! Which requests of a journal stand in the trace, and as what.
 
-ghost use Rattle.std.specs.Prelude.{◌≡◌, ◌==◌, ◌++◌, [], ◌∷◌, ℕ, List, map, OnOk, IfOk, nat_eq, option_map, if◌then◌else◌};
+ghost use Rattle.std.specs.Prelude.{◌≡◌, ◌==◌, ◌++◌, [], ◌∷◌, ℕ, List, map, OnOk, IfOk, None, Some, option_map, unwrap_or, if◌then◌else◌};
+ghost use Rattle.mpicall.specs.Word.{or_else};
 ghost use Rattle.journals.specs.Lines.{Line};
 ghost use Rattle.closing.specs.Called.{naturals_in};
 ghost use Rattle.closing.specs.Entry.{ids_of};
 ghost use Rattle.closing.specs.Steps.{Own};
 ghost use Rattle.closing.specs.inner.RequestReports.{AllStandFor, AreReadable, Tells};
 ghost use Rattle.closing.specs.inner.Outcomes.{is_gone, is_settled, message_by, outcome_at};
-ghost use Rattle.closing.specs.inner.Standings.{id_in, ids_in};
+ghost use Rattle.closing.specs.inner.Standings.{id_in, ids_in, message_for};
 ghost use Rattle.closing.specs.inner.Views.{message_view};
 
 use crate::message::Message;
@@ -27,7 +28,7 @@ pub(crate) struct Standing {
 impl Standing {
     pub(crate) fn of(alloc: Global, lines: &Lines) -> Result<Standing, AllocError>
         ensures outcomes { IfOk result (λ standing. AreReadable lines.now → Tells lines.now standing.outcomes) }
-        ensures matched { IfOk result (λ standing. (request : ℕ) → id_in standing request ≡ request) }
+        ensures matched { IfOk result (λ standing. (request : ℕ) → message_for standing request ≡ None) }
     {
         Ok(Standing {
             outcomes: Outcomes::of(alloc, lines)?,
@@ -39,7 +40,7 @@ impl Standing {
     #[tactic(auto, using(crate::proofs::RequestReportLemmas::tells_none))]
     pub(crate) fn empty(alloc: Global) -> Standing
         ensures outcomes { Tells [] result.outcomes }
-        ensures matched { (request : ℕ) → id_in result request ≡ request }
+        ensures matched { (request : ℕ) → message_for result request ≡ None }
     {
         Standing {
             outcomes: Outcomes::empty(alloc),
@@ -47,12 +48,30 @@ impl Standing {
         }
     }
 
-    /// A started matched receive takes a message.
+    /// The message that a request takes, if it is that of a started matched receive.
+    fn message_for(&self, request: u32) -> Option<u32>
+        ensures { result ≡ message_for self.now request }
+    {
+        self.matched.get(&request).copied()
+    }
+
+    /// The same; where there is none, another.
+    fn message_or(&self, request: u32, message: u32) -> u32
+        ensures { result ≡ unwrap_or (message_for self.now request) message }
+    {
+        match self.message_for(request) {
+            Some(first) => first,
+            None => message,
+        }
+    }
+
+    /// A started matched receive takes a message; of several with one request the first stays.
     pub(crate) fn take_matched(&mut self, request: u32, message: u32) -> Result<(), AllocError>
         ensures outcomes { self.new.outcomes ≡ self.old.outcomes }
-        ensures matched { OnOk result ((other : ℕ) → id_in self.new other ≡ (if request == other then message else id_in self.old other)) }
+        ensures matched { OnOk result ((other : ℕ) → message_for self.new other ≡ or_else (message_for self.old other) (if request == other then Some message else None)) }
     {
-        self.matched.insert(request, message)?;
+        let first = self.message_or(request, message);
+        self.matched.insert(request, first)?;
         Ok(())
     }
 
@@ -79,10 +98,7 @@ impl Standing {
     pub(crate) fn id_of(&self, request: u32) -> u32
         ensures { result ≡ id_in self.now request }
     {
-        match self.matched.get(&request) {
-            Some(message) => *message,
-            None => request,
-        }
+        self.message_or(request, request)
     }
 
     /// Adds what a request is in the trace at the end of a list, unless it was cancelled.

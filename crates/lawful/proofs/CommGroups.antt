@@ -16,7 +16,7 @@ use Rattle.journals.specs.declared.word.CallWord.{CallWord}
 use Rattle.journals.specs.declared.word.ReportWord.{ReportWord}
 use Rattle.journals.specs.declared.word.ReportWord.TheVariants as report
 use Rattle.closing.specs.Called.{called, comm_of}
-use Rattle.closing.specs.Keys.{Key, Apart, group_of_key}
+use Rattle.closing.specs.Keys.{Key, group_of_key}
 use Rattle.closing.specs.RankComms.{RankComms, comms_first, under, key_under, key_next, with_key, made_in, duplicated_in, with_made, after_report, after_line}
 use Rattle.closing.specs.Entries.{Run, Placed, journal_at, placed_at, entries_from, entries_in, entries_at}
 use Rattle.closing.specs.Numbers.{named_key}

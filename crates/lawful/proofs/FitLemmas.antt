@@ -12,7 +12,6 @@ use Rattle.journals.specs.declared.word.Word.{Word}
 use Rattle.journals.specs.declared.word.Word.TheVariants.{Call, Report}
 use Rattle.journals.specs.declared.word.CallWord.{CallWord}
 use Rattle.journals.specs.declared.word.ReportWord.TheVariants as report
-use Rattle.closing.specs.Called.{called}
 use Rattle.closing.specs.RankComms.{RankComms, comms_first, after_line}
 use Rattle.closing.specs.Entries.{Run, Placed, journal_at, lines_in, entries_from, entries_in, entries_at}
 use Rattle.closing.specs.Steps.{Progress, after_steps}
@@ -30,9 +29,10 @@ use Rattle.lawful.proofs.JournalEnds.{OnlyLastEnds, only_last}
 use Rattle.lawful.proofs.OutcomesOnce.{once_more, lines_formed}
 use Rattle.lawful.proofs.CommGroups.{SmallGroup, SmallGroups, small_groups}
 use Rattle.lawful.proofs.EndWords.{end_word}
-use Rattle.closing.specs.Fit.{FitsOn, EntriesFit}
-use Rattle.closing.specs.Fit.{AreFormed, report_count}
-use Rattle.closing.specs.Fit.{AllFit, steps_in}
+use Rattle.lawful.proofs.CommsFit.{fit_comms}
+use Rattle.lawful.proofs.NamedRequests.{names_known}
+use Rattle.lawful.proofs.TestLemmas.{tests_fit}
+use Rattle.closing.specs.Fit.{AllFit, steps_in, FitsOn, EntriesFit, AreFormed, report_count}
 use Rattle.lawful.specs.Fit.{EachRunThatWasReadIsFit}
 
 -- ---- Entries ----
@@ -124,8 +124,11 @@ each_run_that_was_read_is_fit run choice read =
       ranks = full.fits.1;
       sizes = λ rank placed there.
           le_le (size_at run placed) (length run) MOST_RANKS (small_there run (entries_at run rank) placed there.0 (small_groups run rank full) there.1 there.2) full.fits.1;
+      comms = fit_comms run read;
       prefaces = λ rank within. preface_in run rank full;
       entries = λ rank within. in_fits run choice rank (journal_at run rank) full (right rank) (entries_full run rank full);
+      named = λ rank placed there. names_known run read rank placed there;
+      tests = λ rank within. tests_fit run choice rank read;
       formed = λ rank. in_formed (length run) (journal_at run rank) (λ journal h. journal_at_full run rank journal full h);
       once = λ rank request. in_once (journal_at run rank) request (right rank);
       ends = λ rank placed there is. ends_there (entries_at run rank) placed there.0 (in_ends rank (journal_at run rank) (right rank)) there.1 there.2 is;

@@ -43,7 +43,7 @@ few_numbered run = one_more (few_taken GREATEST_COMM (each_once [] (filter (is_n
     one_more : {n : ℕ} → n ≤ GREATEST_COMM → suc n ≤ GREATEST_COMM + 1
     one_more le = omega (arith, le)
 
-world_size : (run : Run) → ranks_of (groups_of run) ≡ length run
+pub world_size : (run : Run) → ranks_of (groups_of run) ≡ length run
 world_size run = length-range_with_len 0 (length run)
 
 pub each_head_is_a_head : EachHeadIsAHead

@@ -45,5 +45,14 @@ pub mod SoFarSteps
 pub mod NewNumbers
 pub mod NewSteps
 pub mod OutcomesOnce
+pub mod CalledCases
+pub mod KnownLines
+pub mod SentRequests
+pub mod ActiveSends
+pub mod OwnSteps
+pub mod TestLemmas
+pub mod NamedRequests
 pub mod CommGroups
+pub mod CommsFit
 pub mod FitLemmas
+pub mod ReadRuns

@@ -7,7 +7,7 @@ use Rattle.std.proofs.lemmas.List.Sums.{sum_by-cons}
 use Rattle.journals.specs.Lines.{Line}
 use Rattle.journals.specs.Entries.{numbers_by, is_request, last_entry}
 use Rattle.journals.specs.Known.{is_among, knows_request, awaits_any, is_cancelled, is_outcome, has_outcome}
-use Rattle.journals.specs.Faults.{may_follow, may_be_of, names_unfit}
+use Rattle.journals.specs.Faults.{is_left, may_follow, may_be_of, names_unfit}
 use Rattle.journals.specs.inner.Knows.{IsRead}
 use Rattle.journals.specs.declared.field.Field.{Field}
 use Rattle.journals.specs.declared.field.Field.TheVariants.{Natural}
@@ -36,12 +36,12 @@ any_passes test (one ∷ numbers) number none among =
     ]
 
 -- a report in its place is of a request that can have it
-may_be : (before : List Line) (word : ReportWord) (fields : List Field) (request : ℕ) → IsRight before (record { word = Report word; fields = fields }) → is_among request (numbers_by is_request (record { word = Report word; fields = fields })) ≡ true → may_be_of word before request ≡ true
+pub may_be : (before : List Line) (word : ReportWord) (fields : List Field) (request : ℕ) → IsRight before (record { word = Report word; fields = fields }) → is_among request (numbers_by is_request (record { word = Report word; fields = fields })) ≡ true → may_be_of word before request ≡ true
 may_be before word fields request is among =
     let line : Line = record { word = Report word; fields = fields } in
     let parts = or_parts (not (may_follow word (length fields) (last_entry before))) (names_unfit word before line) is.in_place in
     let fits = any_passes (λ (r : ℕ). knows_request before r && not (may_be_of word before r)) (numbers_by is_request line) request parts.1 among in
-    let known = (right_requests before line is).known request among in
+    let known = (and_parts (knows_request before request) (is_left before line.word request) ((right_requests before line is).known request among)).0 in
     known_may (knows_request before request) (may_be_of word before request) known fits
   where
     known_may : (a b : Bool) → a ≡ true → (a && not b) ≡ false → b ≡ true

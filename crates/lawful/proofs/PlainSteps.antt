@@ -156,22 +156,23 @@ needs_or_waits _ plain none = absurd (false≢true plain)
 
 -- what is so of an entry at which the list goes on
 pub record Clear (run : Run) (placed : Placed) : Type 0 where
+  pub well : has_report report.Failed placed.entry ≡ false
   pub numbered : lacks_number run placed ≡ false
   pub told : is_unreported placed placed.called ≡ false
   pub known : is_unknown placed placed.called ≡ false
 
-clear_of : (run : Run) (placed : Placed) (a b c d e : Bool) → lacks_number run placed ≡ c → is_unreported placed placed.called ≡ d → is_unknown placed placed.called ≡ e → first_of ((a, Failed) ∷ (b, CannotBe) ∷ (c, NoNumber) ∷ (d, NeverReported) ∷ (e, NeverCameBack) ∷ []) ≡ None → Clear run placed
-clear_of run placed true b c d e third fourth fifth h = absurd (none-some Failed (sym h))
-clear_of run placed false true c d e third fourth fifth h = absurd (none-some CannotBe (sym h))
-clear_of run placed false false true d e third fourth fifth h = absurd (none-some NoNumber (sym h))
-clear_of run placed false false false true e third fourth fifth h = absurd (none-some NeverReported (sym h))
-clear_of run placed false false false false true third fourth fifth h = absurd (none-some NeverCameBack (sym h))
-clear_of run placed false false false false false third fourth fifth h = record { numbered = third; told = fourth; known = fifth }
+clear_of : (run : Run) (placed : Placed) (a b c d e : Bool) → has_report report.Failed placed.entry ≡ a → lacks_number run placed ≡ c → is_unreported placed placed.called ≡ d → is_unknown placed placed.called ≡ e → first_of ((a, Failed) ∷ (b, CannotBe) ∷ (c, NoNumber) ∷ (d, NeverReported) ∷ (e, NeverCameBack) ∷ []) ≡ None → Clear run placed
+clear_of run placed true b c d e first third fourth fifth h = absurd (none-some Failed (sym h))
+clear_of run placed false true c d e first third fourth fifth h = absurd (none-some CannotBe (sym h))
+clear_of run placed false false true d e first third fourth fifth h = absurd (none-some NoNumber (sym h))
+clear_of run placed false false false true e first third fourth fifth h = absurd (none-some NeverReported (sym h))
+clear_of run placed false false false false true first third fourth fifth h = absurd (none-some NeverCameBack (sym h))
+clear_of run placed false false false false false first third fourth fifth h = record { well = first; numbered = third; told = fourth; known = fifth }
 
 pub clear : (run : Run) (placed : Placed) → why_at run placed ≡ None → Clear run placed
 clear run placed h =
     clear_of run placed (has_report report.Failed placed.entry) (not (can_be run placed)) (lacks_number run placed) (is_unreported placed placed.called)
-    (is_unknown placed placed.called) refl refl refl (breaks_none placed.called _ h)
+    (is_unknown placed placed.called) refl refl refl refl (breaks_none placed.called _ h)
 
 -- the entry's number, or its requests
 entry_by : (run : Run) (choice : Choice) (placed : Placed) (old : ℕ → ℕ) (known used : List ℕ) (progress : Progress) (needs : Bool) (o : Option ℕ) → needs_number placed.called ≡ needs → number_at run placed ≡ o → (needs && is_none o) ≡ false → is_plain placed.called ≡ true → Clear run placed → Fits choice placed known used placed.called → Stands old known used progress → AddsSteps old known used progress placed.line (λ number. same_call number o (message_at placed) placed.called) (started_by placed.called) (waited_by placed.called) (steps_by run choice placed o)

@@ -52,7 +52,7 @@ start_keeps calls active call id start is_start same number =
 
 -- ---- Numbers taken out ----
 
-without_has : (one : ℕ) (active : List (Id × ℕ)) (number : ℕ) → has_number (without one active) number ≡ (if one == number then false else has_number active number)
+pub without_has : (one : ℕ) (active : List (Id × ℕ)) (number : ℕ) → has_number (without one active) number ≡ (if one == number then false else has_number active number)
 without_has one [] number =
     ⊎_elim
     (λ (e : eqb one number ≡ true). rw e refl)

@@ -8,8 +8,8 @@ use Rattle.std.proofs.lemmas.Option.{none-some}
 use Rattle.journals.specs.Header.{Heading, heading_of, is_of_run}
 use Rattle.journals.specs.Text.{is_too_long}
 use Rattle.journals.specs.Lines.{Line, line_of}
-use Rattle.journals.specs.Entries.{numbers_by, is_new_request, is_new_message, is_request, is_of_request}
-use Rattle.journals.specs.Known.{is_among, are_distinct, knows_request}
+use Rattle.journals.specs.Entries.{numbers_by, is_new_request, is_new_message, is_request, is_message, is_of_request}
+use Rattle.journals.specs.Known.{is_among, are_distinct, knows_request, knows_message}
 use Rattle.journals.specs.Faults.{Owner, is_after_end, is_out_of_place, is_free, is_left, has_wrong_request, first_of, fault_of_line}
 use Rattle.journals.specs.Journal.{Journal, Fault, unless_fault, checked_line, line_after, read_on, lines_after, with_heading, after_header, journal_of_lines}
 use Rattle.journals.specs.declared.fault.JournalFaultKind.{JournalFaultKind}
@@ -116,7 +116,8 @@ all_among test (one ∷ numbers) number all among =
 pub record RightRequests (before : List Line) (line : Line) : Type 0 where
   pub new_requests : (number : ℕ) → is_among number (numbers_by is_new_request line) ≡ true → is_free before number ≡ true
   pub new_messages : (number : ℕ) → is_among number (numbers_by is_new_message line) ≡ true → is_free before number ≡ true
-  pub known : (number : ℕ) → is_among number (numbers_by is_request line) ≡ true → knows_request before number ≡ true
+  pub known : (number : ℕ) → is_among number (numbers_by is_request line) ≡ true → (knows_request before number && is_left before line.word number) ≡ true
+  pub known_message : (number : ℕ) → is_among number (numbers_by is_message line) ≡ true → (knows_message before number && is_left before line.word number) ≡ true
   pub distinct : are_distinct (numbers_by is_of_request line) ≡ true
 
 record Five (a b c d e : Bool) : Type 0 where
@@ -137,12 +138,13 @@ five true true true true true h = record { first = refl; second = refl; third = 
 pub right_requests : (before : List Line) (line : Line) → IsRight before line → RightRequests before line
 right_requests before line is =
     let known = λ (number : ℕ). knows_request before number && is_left before line.word number in
+    let message = λ (number : ℕ). knows_message before number && is_left before line.word number in
     let parts = five (list_all (is_free before) (numbers_by is_new_request line)) (list_all (is_free before) (numbers_by is_new_message line))
-    (list_all known (numbers_by is_request line)) _ (are_distinct (numbers_by is_of_request line)) is.requests in
+    (list_all known (numbers_by is_request line)) (list_all message (numbers_by is_message line)) (are_distinct (numbers_by is_of_request line)) is.requests in
     record {
       new_requests = λ number among. all_among (is_free before) (numbers_by is_new_request line) number parts.first among;
       new_messages = λ number among. all_among (is_free before) (numbers_by is_new_message line) number parts.second among;
-      known = λ number among. (and_parts (knows_request before number) (is_left before line.word number)
-          (all_among known (numbers_by is_request line) number parts.third among)).0;
+      known = λ number among. all_among known (numbers_by is_request line) number parts.third among;
+      known_message = λ number among. all_among message (numbers_by is_message line) number parts.fourth among;
       distinct = parts.fifth;
     }

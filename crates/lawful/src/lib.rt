@@ -22,9 +22,11 @@
 //! their lists, `SoFarLemmas` and `SoFarSteps` those of a journal that goes on.
 //!
 //! `specs/Fit` says that what the making of a recording rests on is true of each run that was read. `RightLines` says that
-//! no line has a fault by those before it, `OutcomesOnce` that it is reported once what came of a request. `NewNumbers` has
-//! the requests that lines start, `NewSteps` steps that start them, `CommGroups` the groups of communicators, `FitLemmas`
-//! all together.
+//! no line has a fault by those before it, and so `OutcomesOnce` that it is reported once what came of a request.
+//! `NewNumbers`, `KnownLines` and `SentRequests` have what lines say of requests, `CalledCases` what calls say. `NewSteps`
+//! has steps that start new requests, `NamedRequests` what waits and tests name, `ActiveSends`, `OwnSteps` and `TestLemmas`
+//! what a test finds in the list. `CommGroups` and `CommsFit` have the groups of communicators, `FitLemmas` all together.
+//! `ReadRuns` has what crates above cite of runs that were read.
 #![tactic(auto)]
 
 pub mod laws;

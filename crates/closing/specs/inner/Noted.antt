@@ -32,6 +32,11 @@ abbrev pub report_if : Option Word → Option ReportWord
 report_if (Some (Report word)) = Some word
 report_if _ = None
 
+-- that of a call
+abbrev pub call_if : Option Word → Option CallWord
+call_if (Some (Call word)) = Some word
+call_if _ = None
+
 -- ---- The reports of an entry ----
 
 -- those of the call line before these lines

@@ -1,6 +1,7 @@
 -- What the code has of where an entry's call stands, and the list of a rank after what stands for an entry.
 use Rattle.std.specs.Prelude.{◌≡◌, ℕ, ◌≤◌, Bool, true, false, IsTrue, IfSome, ◌==◌, if◌then◌else◌, Option, Some, None, is_some, is_none, option_map, Result, Ok, Err, List, [], ◌∷◌, ◌++◌, length, map, slice_get}
 use Rattle.mpicall.specs.Limits.{in_ranges}
+use Rattle.mpicall.specs.Word.{or_else}
 use Rattle.mpicall.specs.declared.call.Call.{Call}
 use Rattle.journals.specs.Lines.{Line}
 use Rattle.journals.specs.Taking.{fields_at as fields_in}
@@ -9,8 +10,8 @@ use Rattle.closing.specs.Called.{Called, ReceivesMatched, StartsMatched, Waits, 
 use Rattle.closing.specs.Entry.{Choice, id_of, is_of_send, passes_tests}
 use Rattle.closing.specs.Steps.{Id, Own, Whole, ReceiveHalf, Written, Progress, Step, Does, Starts, PutsOff, number_in, after_step, after_steps}
 use Rattle.closing.specs.Recording.{Outcome, GoesOn, Ends}
-use Rattle.closing.specs.Fit.{AllFit, steps_in}
-use Rattle.closing.specs.inner.Lists.{Stands, IsCut, ComesTo, starts_send}
+use Rattle.closing.specs.Fit.{AllFit, AllHaveKind, steps_in, waited}
+use Rattle.closing.specs.inner.Lists.{Stands, IsCut, ComesTo}
 use Rattle.closing.specs.Reported.{Message as Said, is_gone}
 use Rattle.closing.specs.inner.RequestReports.{AllStandFor, Tells}
 use Rattle.closing.specs.inner.Views.{called_view, message_view}
@@ -19,7 +20,6 @@ use Rattle.closing.specs.declared.called.Called.{Called as CalledCode}
 use Rattle.closing.specs.declared.called.Called.TheVariants as code
 use Rattle.closing.specs.declared.message.Message.{Message}
 use Rattle.closing.specs.declared.numbers.Named.{Named}
-use Rattle.closing.specs.declared.choice.Choice.{Choice as ChoiceCode}
 use Rattle.closing.specs.declared.walk.At.{At}
 use Rattle.closing.specs.declared.standing.Standing.{Standing}
 use Rattle.closing.specs.declared.list.List.{List as ListCode}
@@ -75,9 +75,6 @@ pub record IsAt (spot : Spot) (it : At) : Type 0 where
   pub got : option_map message_view it.got ≡ spot.got
   pub chose : option_map (λ fields. naturals_in fields.now) it.chose ≡ spot.chose
 
-abbrev pub choice_view : ChoiceCode → Choice
-choice_view it = record { tests = it.tests; calls = it.calls }
-
 -- ---- Steps ----
 
 -- those that are waited for right before the end
@@ -87,22 +84,6 @@ late_in (PutsOff ids ∷ steps) = ids ++ late_in steps
 late_in (step ∷ steps) = late_in steps
 
 -- ---- Tests that are passed ----
-
--- a record that starts the request starts a send, or another request
-abbrev pub StartsKind : Bool → Id → Option Written → Type 0
-StartsKind is_send id None = Unit {0}
-StartsKind is_send id (Some it) = it.starts ≡ Some id → starts_send it.call ≡ is_send
-
--- what the list has of a request is what the journal says of it: that of a send, which is active, or another
-pub record HasKind (lines : List Line) (progress : Progress) (request : ℕ) : Type 0 where
-  pub active : is_of_send lines request ≡ true → is_some (number_in progress.active (id_of lines request)) ≡ true
-  pub starts : (place : ℕ) → StartsKind (is_of_send lines request) (id_of lines request) (slice_get progress.records place)
-
--- so it is of each of these that wasn't cancelled
-abbrev pub AllHaveKind : List Line → Progress → List ℕ → Type 0
-AllHaveKind lines progress [] = Unit {0}
-AllHaveKind lines progress (request ∷ requests) =
-    (is_gone lines request ≡ false → HasKind lines progress request) × AllHaveKind lines progress requests
 
 -- where tests are passed no call stands for what it started, and what is tested has its kind
 abbrev pub AllTestsFit : Choice → Spot → List ℕ → Progress → Type 0
@@ -147,15 +128,6 @@ LateWhere Holds outcome list old new =
 
 -- ---- An entry by its call ----
 
--- the requests that a wait or test names
-abbrev pub waited : Called → List ℕ
-waited (ReceivesMatched message) = message ∷ []
-waited (Waits requests) = requests
-waited (Tests requests) = requests
-waited (WaitsAny requests) = requests
-waited (WaitsSome requests) = requests
-waited it = []
-
 -- it is neither on a communicator nor makes one of a group
 abbrev pub is_on_none : Called → Bool
 is_on_none (MakesOfGroup group) = false
@@ -184,7 +156,7 @@ TakesCall choice spot it result old new = TakesWhere (TestFits choice spot it) s
 abbrev pub LateCall : Choice → Spot → Called → ListCode → List ℕ → List ℕ → Type 0
 LateCall choice spot it list old new = LateWhere (TestFits choice spot it) (outcome_on choice spot it) list old new
 
--- what a request is in the trace after the call
-abbrev pub id_after : Called → (ℕ → ℕ) → ℕ → ℕ
-id_after (StartsMatched request message) before other = if request == other then message else before other
-id_after it before other = before other
+-- the message that a request takes after the call, by those before it; of several messages the first
+abbrev pub message_after : Called → (ℕ → Option ℕ) → ℕ → Option ℕ
+message_after (StartsMatched request message) before other = or_else (before other) (if request == other then Some message else None)
+message_after it before other = before other

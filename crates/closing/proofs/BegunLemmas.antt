@@ -1,0 +1,202 @@
+-- The list of a rank before its first entry: its preface, or that of a rank without a journal.
+use Rattle.std.proofs.Common.{◌≡◌, ◌∙◌, refl, sym, ap, subst, arith, ℕ, ◌+◌, ◌≤◌, Bool, true, false, List, [], ◌∷◌, ◌++◌, length, map, take, drop, Option, Some, None}
+use Rattle.std.specs.Prelude.{is_none}
+use Rattle.mpicall.specs.declared.call.Call.{Call}
+use Rattle.mpicall.specs.declared.call.Call.TheVariants.{Open}
+use Rattle.journals.specs.Journal.{Journal}
+use Rattle.journals.specs.Lines.{Line}
+use Rattle.closing.specs.Entries.{Run, Placed, entries_at, entries_in, journal_at, lines_at, lines_in}
+use Rattle.closing.specs.Entry.{Choice, matched_message}
+use Rattle.closing.specs.Fit.{AreFormed, EntriesFit, IsFit, TestsFit, report_count}
+use Rattle.closing.specs.Numbers.{preface_of}
+use Rattle.closing.specs.Recording.{Listed, cut, ended, list_from, list_of, progress_first, without_journal}
+use Rattle.closing.specs.Steps.{Own, plain}
+use Rattle.closing.specs.Table.{Table}
+use Rattle.closing.specs.inner.Lists.{Stands}
+use Rattle.closing.specs.inner.Noted.{reports_in}
+use Rattle.closing.specs.inner.RequestReports.{AreReadable}
+use Rattle.closing.specs.inner.SoFar.{AreOfLine, IsBegun, IsOn, IsPart, IsWalk, entries_left}
+use Rattle.closing.specs.inner.Table.{Grows}
+use Rattle.closing.specs.declared.list.List.{List as ListCode}
+use Rattle.closing.specs.declared.numbers.Communicators.{Communicators}
+use Rattle.closing.specs.declared.walk.Walk.{Walk}
+use Rattle.closing.specs.declared.why.Why.TheVariants.{NoJournal}
+use Rattle.closing.proofs.AtLemmas.{rank_within}
+use Rattle.closing.proofs.LineLemmas.{IsEnded, calls_ended}
+use Rattle.closing.proofs.ListLemmas.{line_past, plain_line}
+use Rattle.closing.proofs.MatchedLemmas.{no_matched}
+use Rattle.closing.proofs.PlacedLemmas.{entries_after_reports, none_after}
+use Rattle.closing.proofs.WalkLemmas.{part_of_on}
+
+preface_line : (calls : List Call) → AreOfLine 0 0 (plain 0 calls)
+preface_line calls = λ place from within. line_past [] (plain 0 calls) 0 place (plain_line 0 calls) from (omega (arith, within))
+
+-- what else is known of a walk to which nothing was added but its preface
+pub record IsFirst (run : Run) (rank : ℕ) (walk : Walk) : Type 0 where
+  pub rank_is : walk.rank ≡ rank
+  pub stands : Stands [] (progress_first run rank) walk.list
+  pub handed : walk.handed ≡ 0
+  pub before : walk.before ≡ 0
+  pub line : walk.line ≡ 0
+  pub late : walk.late.items ≡ []
+  pub left : walk.left ≡ None
+  pub on : walk.is_over ≡ false
+
+module _ (run : Run) (choice : Choice) (journal : Journal) (table : Table) (walk : Walk) (fit : IsFit run choice) (there : journal_at run walk.rank ≡ Some journal)
+    (first : IsFirst run walk.rank walk) (begun : IsBegun table journal walk) where
+  reports_first : length (reports_in (drop 0 journal.lines)) ≡ walk.next
+  reports_first = sym begun.next
+
+  entries_first : entries_at run walk.rank ≡ entries_left walk.rank journal walk.next
+  entries_first =
+      ap (entries_in walk.rank) there
+      ∙ entries_after_reports walk.rank journal 0 (length (reports_in (drop 0 journal.lines))) refl
+      ∙ ap (entries_left walk.rank journal) (omega (arith, reports_first))
+
+  pub begun_on : IsOn run choice table walk
+  begun_on = record {
+    journal = journal;
+    there = there;
+    so_far = record {
+      handed = [];
+      progress = progress_first run walk.rank;
+      count = sym first.handed;
+      stands = first.stands;
+      late = ap (map Own) first.late;
+      list = ap (list_from run choice (progress_first run walk.rank)) (sym entries_first);
+      fit = subst (λ (entries : List Placed). EntriesFit run choice (progress_first run walk.rank) entries) entries_first
+          (fit.entries walk.rank (rank_within run walk.rank journal there));
+      tests = subst (λ (entries : List Placed). TestsFit run choice (progress_first run walk.rank) entries) entries_first
+          (fit.tests walk.rank (rank_within run walk.rank journal there));
+      comms = begun.comms;
+      last = begun.last;
+      reported = begun.reported;
+      requests = λ request.
+          begun.requests request
+          ∙ sym (ap (λ n. matched_message (take n journal.lines) request) begun.next ∙ no_matched journal.lines request);
+      at_call =
+          let same : 0 + length (reports_in (drop 0 journal.lines)) ≡ walk.next = omega (arith, reports_first) in
+          ap (λ n. reports_in (drop n journal.lines)) (sym same)
+          ∙ none_after journal.lines 0 (length (reports_in (drop 0 journal.lines))) refl;
+      left = first.left;
+    };
+    lines = rw (first.line, first.before) (preface_line (preface_of run walk.rank));
+  }
+
+  pub begun_walk : IsWalk run choice table walk
+  begun_walk = record { part = part_of_on run choice table walk begun_on first.on; on = λ goes. begun_on }
+
+-- ---- Without a journal ----
+
+-- what else is known of a walk that was left after its preface
+pub record IsLeft (run : Run) (rank : ℕ) (list : ListCode) (walk : Walk) : Type 0 where
+  pub rank_is : walk.rank ≡ rank
+  pub stands : Stands [] (progress_first run rank) list
+  pub items : walk.list.records.items ≡ list.records.items ++ Open ∷ []
+  pub handed : walk.handed ≡ 0
+  pub before : walk.before ≡ 0
+  pub line : walk.line ≡ 0
+  pub left : walk.left ≡ Some (record { line = 0; why = NoJournal })
+  pub over : walk.is_over ≡ true
+
+pub left_walk : (run : Run) (choice : Choice) (table : Table) (list : ListCode) (walk : Walk) → journal_at run walk.rank ≡ None → IsLeft run walk.rank list walk
+    → IsWalk run choice table walk
+left_walk run choice table list walk none is = record {
+  part = subst (λ (it : Listed). IsPart it walk) (sym listed) (record {
+    handed = [];
+    rest = [];
+    has = record {
+      calls = ended_is.has.calls ∙ ap (λ xs. xs ++ []) (sym is.items);
+      lines = λ place from within.
+          ended_is.has.lines place (omega (arith, from)) (omega (arith, within, ap length is.items)) ∙ sym is.line;
+    };
+    count = sym is.handed;
+    over = λ over. (refl, is.left ∙ ap (λ line. Some (record { line = line; why = NoJournal })) (sym ended_is.line_is));
+  });
+  on = λ goes. absurd (true_false walk.is_over is.over goes);
+}
+  where
+    whole : Listed
+    whole = ended (progress_first run walk.rank) Open 0 None
+
+    listed : list_of run choice walk.rank ≡ without_journal true (cut whole)
+    listed = ap (λ (it : Option Journal). without_journal (is_none it) (cut (list_from run choice (progress_first run walk.rank) (entries_in walk.rank it)))) none
+
+    ended_is : IsEnded (cut whole) [] (list.records.items ++ Open ∷ []) 0 0 None
+    ended_is =
+        calls_ended (progress_first run walk.rank) [] list.records.items Open 0 0 None (omega (arith, is.stands.count, is.stands.short))
+        is.stands.records (preface_line (preface_of run walk.rank))
+
+    true_false : (b : Bool) → b ≡ true → b ≡ false → ⊥
+    true_false true one other = cc (other)
+    true_false false one other = cc (one)
+
+-- ---- As a walk is made ----
+
+-- nothing was taken so far
+pub record IsEmpty (walk : Walk) : Type 0 where
+  pub handed : walk.handed ≡ 0
+  pub before : walk.before ≡ 0
+  pub line : walk.line ≡ 0
+  pub late : walk.late.items ≡ []
+  pub left : walk.left ≡ None
+  pub on : walk.is_over ≡ false
+
+module _ (run : Run) (choice : Choice) (table : Table) (empty put : Walk) (is_empty : IsEmpty empty) (listed : put ≡ record empty { list = put.list })
+    (stands : Stands [] (progress_first run empty.rank) put.list) where
+  -- with a journal
+  pub new_begun : (journal : Journal) (walk : Walk) → walk ≡ record put { requests = walk.requests; last = walk.last; comms = walk.comms; next = walk.next }
+      → IsFit run choice → journal_at run empty.rank ≡ Some journal → IsBegun table journal walk → IsWalk run choice table walk
+  new_begun journal walk same fit there begun =
+      let rank : walk.rank ≡ empty.rank = ap (λ (it : Walk). it.rank) same ∙ ap (λ (it : Walk). it.rank) listed in
+      begun_walk run choice journal table walk fit (subst (λ (n : ℕ). journal_at run n ≡ Some journal) (sym rank) there)
+      (record {
+        rank_is = refl;
+        stands = subst (λ (n : ℕ). Stands [] (progress_first run n) walk.list) (sym rank)
+            (subst (λ (it : ListCode). Stands [] (progress_first run empty.rank) it) (sym (ap (λ (it : Walk). it.list) same)) stands);
+        handed = ap (λ (it : Walk). it.handed) same ∙ ap (λ (it : Walk). it.handed) listed ∙ is_empty.handed;
+        before = ap (λ (it : Walk). it.before) same ∙ ap (λ (it : Walk). it.before) listed ∙ is_empty.before;
+        line = ap (λ (it : Walk). it.line) same ∙ ap (λ (it : Walk). it.line) listed ∙ is_empty.line;
+        late = ap (λ (it : Walk). it.late.items) same ∙ ap (λ (it : Walk). it.late.items) listed ∙ is_empty.late;
+        left = ap (λ (it : Walk). it.left) same ∙ ap (λ (it : Walk). it.left) listed ∙ is_empty.left;
+        on = ap (λ (it : Walk). it.is_over) same ∙ ap (λ (it : Walk). it.is_over) listed ∙ is_empty.on;
+      })
+      begun
+
+  -- without one
+  pub new_left : (walk : Walk) → walk ≡ record put { list = walk.list; is_over = true; left = Some (record { line = put.line; why = NoJournal }) }
+      → walk.list.records.items ≡ put.list.records.items ++ Open ∷ [] → journal_at run empty.rank ≡ None → IsWalk run choice table walk
+  new_left walk same items there =
+      let rank : walk.rank ≡ empty.rank = ap (λ (it : Walk). it.rank) same ∙ ap (λ (it : Walk). it.rank) listed in
+      let line : put.line ≡ 0 = ap (λ (it : Walk). it.line) listed ∙ is_empty.line in
+      left_walk run choice table put.list walk (subst (λ (n : ℕ). journal_at run n ≡ None) (sym rank) there)
+      (record {
+        rank_is = refl;
+        stands = subst (λ (n : ℕ). Stands [] (progress_first run n) put.list) (sym rank) stands;
+        items = items;
+        handed = ap (λ (it : Walk). it.handed) same ∙ ap (λ (it : Walk). it.handed) listed ∙ is_empty.handed;
+        before = ap (λ (it : Walk). it.before) same ∙ ap (λ (it : Walk). it.before) listed ∙ is_empty.before;
+        line = ap (λ (it : Walk). it.line) same ∙ line;
+        left = ap (λ (it : Walk). it.left) same ∙ ap (λ (n : ℕ). Some (record { line = n; why = NoJournal })) line;
+        over = ap (λ (it : Walk). it.is_over) same;
+      })
+
+-- the lines of a journal that fits can be read
+pub readable_lines : (run : Run) (choice : Choice) (rank : ℕ) (journal : Journal) → IsFit run choice → journal_at run rank ≡ Some journal → length (lines_at run rank) ≤ 4294967292
+    → AreReadable journal.lines
+readable_lines run choice rank journal fit there few =
+    let same : lines_at run rank ≡ journal.lines = ap lines_in there in
+    let count : length (lines_at run rank) ≡ length journal.lines = ap length same in
+    record {
+      few = omega (arith, few, count);
+      formed = subst (λ (lines : List Line). AreFormed lines) same (fit.formed rank);
+      once = λ request. subst (λ (lines : List Line). report_count lines request ≤ 1) same (fit.once rank request);
+    }
+
+-- where the run and the walk are these
+pub new_as : (run : Run) (choice : Choice) (old : Table) (kept now : Communicators) (walk made : Walk) → now ≡ kept → made ≡ walk → IsWalk run choice kept.keys walk → Grows old kept.keys
+    → IsWalk run choice now.keys made × Grows old now.keys
+new_as run choice old kept now walk made kept_is walk_is is grows = (
+  subst (λ (it : Walk). IsWalk run choice now.keys it) (sym walk_is) (subst (λ (it : Communicators). IsWalk run choice it.keys walk) (sym kept_is) is),
+  subst (λ (it : Communicators). Grows old it.keys) (sym kept_is) grows,
+)

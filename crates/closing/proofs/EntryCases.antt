@@ -1,0 +1,184 @@
+-- The list of a rank after an entry, by what the code asks of its call.
+use Rattle.std.proofs.Common.{◌≡◌, refl, sym, ap, subst, ℕ, Bool, true, false, List, Option, Some, None, Ok, Err}
+use Rattle.mpicall.specs.declared.call.Call.{Call}
+use Rattle.journals.specs.Known.{has_report}
+use Rattle.journals.specs.declared.word.ReportWord.TheVariants as report
+use Rattle.closing.specs.Called.{Called, Sends, StartsSend, Receives, StartsReceive, Exchanges, StartsExchange, Probes, ProbesMatching, ReceivesMatched, StartsMatched, Waits, Tests, WaitsAny, WaitsSome, Cancels, FreesRequest, Collects, StartsCollective, Duplicates, StartsDuplicate, Splits, Makes, MakesOfGroup, FreesComm, Nothing, Finalizes, Exits, Aborts, Fills, Stops}
+use Rattle.closing.specs.Entries.{Run, Placed}
+use Rattle.closing.specs.Endings.{breaks_off}
+use Rattle.closing.specs.Entry.{Choice}
+use Rattle.closing.specs.Steps.{Id, Progress, WaitsForAll, WaitsForLate, after_step, after_steps}
+use Rattle.closing.specs.Recording.{Ends, GoesOn, Outcome, is_end, outcome_of}
+use Rattle.closing.specs.inner.Lists.{ComesTo, Stands}
+use Rattle.closing.specs.inner.SoFar.{Entered}
+use Rattle.closing.specs.inner.Walked.{EndsAt, Follows}
+use Rattle.closing.specs.inner.Walks.{ends}
+use Rattle.closing.specs.declared.list.List.{List as ListCode}
+use Rattle.closing.specs.declared.stop.Stop.{Stop}
+use Rattle.closing.specs.declared.stop.Stop.TheVariants.{Left, Memory}
+use Rattle.closing.specs.declared.why.Why.{Why}
+use Rattle.closing.specs.declared.why.Why.TheVariants.{NeverCameBack, NeverReported, Failed, NoNumber, TooLong, CannotBe, Stopped, Aborted, Full, NoJournal}
+use Rattle.closing.proofs.GrownLemmas.{same_records}
+use Rattle.closing.proofs.OutcomeOfEntry.{broken_is, ended_is, failed_is, goes_on_past}
+use Rattle.closing.proofs.StepsLemmas.{ends_cut, still_cut}
+
+-- ---- What the rank does from here on isn't known ----
+
+-- such a call doesn't end a list that is too long
+not_long : (it : Called) (why : Why) → breaks_off it ≡ Some why → why ≡ TooLong → ⊥
+not_long (Sends mode sent) why e long = cc (e)
+not_long (StartsSend request mode sent) why e long = cc (e)
+not_long (Receives awaited) why e long = cc (e)
+not_long (StartsReceive request awaited) why e long = cc (e)
+not_long (Exchanges sent awaited) why e long = cc (e)
+not_long (StartsExchange request received sent awaited) why e long = cc (e)
+not_long (Probes awaited) why e long = cc (e)
+not_long (ProbesMatching message awaited) why e long = cc (e)
+not_long (ReceivesMatched message) why e long = cc (e)
+not_long (StartsMatched request message) why e long = cc (e)
+not_long (Waits requests) why e long = cc (e)
+not_long (Tests requests) why e long = cc (e)
+not_long (WaitsAny requests) why e long = cc (e)
+not_long (WaitsSome requests) why e long = cc (e)
+not_long (Cancels request) why e long = cc (e)
+not_long (FreesRequest request) why e long = cc (e)
+not_long (Collects collective comm root) why e long = cc (e)
+not_long (StartsCollective request collective comm root) why e long = cc (e)
+not_long (Duplicates comm) why e long = cc (e)
+not_long (StartsDuplicate request comm) why e long = cc (e)
+not_long (Splits comm colour key) why e long = cc (e)
+not_long (Makes comm) why e long = cc (e)
+not_long (MakesOfGroup group) why e long = cc (e)
+not_long (FreesComm comm) why e long = cc (e)
+not_long Nothing why e long = cc (e)
+not_long Finalizes why e long = cc (e)
+not_long Exits why e long = cc (e)
+not_long Aborts why e long = cc (e, long)
+not_long Fills why e long = cc (e, long)
+not_long Stops why e long = cc (e, long)
+
+found_stands : (handed : List Call) (progress : Progress) (line : ℕ) (it : ListCode) (why : Why) → (why ≡ TooLong → ⊥) → Stands handed progress it
+    → EndsAt {A = Bool} (Err (Left why)) handed progress line (Some why) it
+found_stands handed progress line it NeverCameBack h stands = (refl, stands)
+found_stands handed progress line it NeverReported h stands = (refl, stands)
+found_stands handed progress line it Failed h stands = (refl, stands)
+found_stands handed progress line it NoNumber h stands = (refl, stands)
+found_stands handed progress line it CannotBe h stands = (refl, stands)
+found_stands handed progress line it Stopped h stands = (refl, stands)
+found_stands handed progress line it Aborted h stands = (refl, stands)
+found_stands handed progress line it Full h stands = (refl, stands)
+found_stands handed progress line it NoJournal h stands = (refl, stands)
+found_stands handed progress line it TooLong h stands = absurd (h refl)
+
+-- an entry that ends the list with nothing put
+ends_entered : (outcome : Outcome) (why : Why) (handed : List Call) (progress : Progress) (line : ℕ) (it : ListCode) → outcome ≡ ends why → (why ≡ TooLong → ⊥)
+    → Stands handed progress it → Entered (Err (Left why)) outcome handed progress line it
+ends_entered outcome why handed progress line it e short stands =
+    subst (λ (one : Outcome). Entered (Err (Left why)) one handed progress line it) (sym e) (found_stands handed progress line it why short stands)
+
+pub breaks_entered : (run : Run) (choice : Choice) (placed : Placed) (why : Why) (handed : List Call) (progress : Progress) (it : ListCode) → breaks_off placed.called ≡ Some why
+    → Stands handed progress it → Entered (Err (Left why)) (outcome_of run choice placed) handed progress placed.line it
+breaks_entered run choice placed why handed progress it e stands =
+    ends_entered (outcome_of run choice placed) why handed progress placed.line it (broken_is run choice placed why e) (not_long placed.called why e) stands
+
+-- ---- The call failed ----
+
+pub none_of : (found : Option Why) → ((why : Why) → found ≡ Some why → ⊥) → found ≡ None
+none_of None others = refl
+none_of (Some why) others = absurd (others why refl)
+
+-- one that neither breaks the list off nor ends the rank's calls
+pub past_both : (it : Called) → breaks_off it ≡ None → is_end it ≡ false → goes_on_past it ≡ true
+past_both (Sends mode sent) e f = refl
+past_both (StartsSend request mode sent) e f = refl
+past_both (Receives awaited) e f = refl
+past_both (StartsReceive request awaited) e f = refl
+past_both (Exchanges sent awaited) e f = refl
+past_both (StartsExchange request received sent awaited) e f = refl
+past_both (Probes awaited) e f = refl
+past_both (ProbesMatching message awaited) e f = refl
+past_both (ReceivesMatched message) e f = refl
+past_both (StartsMatched request message) e f = refl
+past_both (Waits requests) e f = refl
+past_both (Tests requests) e f = refl
+past_both (WaitsAny requests) e f = refl
+past_both (WaitsSome requests) e f = refl
+past_both (Cancels request) e f = refl
+past_both (FreesRequest request) e f = refl
+past_both (Collects collective comm root) e f = refl
+past_both (StartsCollective request collective comm root) e f = refl
+past_both (Duplicates comm) e f = refl
+past_both (StartsDuplicate request comm) e f = refl
+past_both (Splits comm colour key) e f = refl
+past_both (Makes comm) e f = refl
+past_both (MakesOfGroup group) e f = refl
+past_both (FreesComm comm) e f = refl
+past_both Nothing e f = refl
+past_both Finalizes e f = cc (f)
+past_both Exits e f = cc (f)
+past_both Aborts e f = cc (e)
+past_both Fills e f = cc (e)
+past_both Stops e f = cc (e)
+
+pub failed_entered : (run : Run) (choice : Choice) (placed : Placed) (handed : List Call) (progress : Progress) (it : ListCode) → goes_on_past placed.called ≡ true
+    → has_report report.Failed placed.entry ≡ true → Stands handed progress it
+    → Entered (Err (Left Failed)) (outcome_of run choice placed) handed progress placed.line it
+failed_entered run choice placed handed progress it past failed stands =
+    ends_entered (outcome_of run choice placed) Failed handed progress placed.line it (failed_is run choice placed past failed) (λ long. cc (long)) stands
+
+-- ---- The end of the rank's calls ----
+
+late_same : (progress : Progress) (line : ℕ) (ids : List Id) → ids ≡ progress.late → after_step progress line (WaitsForAll ids) ≡ after_step progress line WaitsForLate
+late_same progress line ids e = ap (λ (late : List Id). after_step progress line (WaitsForAll late)) e
+
+-- after the waits for the sends that tests completed
+pub end_entered : (run : Run) (choice : Choice) (placed : Placed) (handed : List Call) (progress : Progress) (ids : List Id) (it : ListCode) → is_end placed.called ≡ true
+    → has_report report.Failed placed.entry ≡ false → ids ≡ progress.late → Stands handed (after_step progress placed.line (WaitsForAll ids)) it
+    → Entered (Ok true) (outcome_of run choice placed) handed progress placed.line it
+end_entered run choice placed handed progress ids it e failed late stands =
+    subst (λ (one : Outcome). Entered (Ok true) one handed progress placed.line it) (sym (ended_is run choice placed e failed))
+    (refl, (refl, subst (λ (one : Progress). Stands handed one it) (late_same progress placed.line ids late) stands))
+
+pub end_stops : (A : Type 0) (run : Run) (choice : Choice) (placed : Placed) (handed : List Call) (progress : Progress) (ids : List Id) (stop : Stop) (it : ListCode)
+    → is_end placed.called ≡ true → has_report report.Failed placed.entry ≡ false → ids ≡ progress.late
+    → ComesTo {A = A} (Err stop) handed (after_step progress placed.line (WaitsForAll ids)) placed.line it
+    → Entered (Err stop) (outcome_of run choice placed) handed progress placed.line it
+end_stops A run choice placed handed progress ids stop it e failed late comes =
+    let after = after_step progress placed.line WaitsForLate in
+    subst (λ (one : Outcome). Entered (Err stop) one handed progress placed.line it) (sym (ended_is run choice placed e failed))
+    (ends_cut A Bool stop handed after placed.line None it
+    (subst (λ (one : Progress). ComesTo {A = A} (Err stop) handed one placed.line it) (late_same progress placed.line ids late) comes))
+
+-- ---- Any other call ----
+
+pub memory_entered : (outcome : Outcome) (handed : List Call) (progress : Progress) (line : ℕ) (it : ListCode) → Entered (Err Memory) outcome handed progress line it
+memory_entered (GoesOn steps) handed progress line it = tt
+memory_entered (Ends steps end why) handed progress line it = tt
+
+ends_as : (A : Type 0) (stop : Stop) (handed : List Call) (progress : Progress) (line : ℕ) (why : Option Why) (it : ListCode)
+    → EndsAt {A = A} (Err stop) handed progress line why it → EndsAt {A = Bool} (Err stop) handed progress line why it
+ends_as A (Left TooLong) handed progress line why it is = is
+ends_as A Memory handed progress line why it is = tt
+ends_as A (Left NeverCameBack) handed progress line why it is = is
+ends_as A (Left NeverReported) handed progress line why it is = is
+ends_as A (Left Failed) handed progress line why it is = is
+ends_as A (Left NoNumber) handed progress line why it is = is
+ends_as A (Left CannotBe) handed progress line why it is = is
+ends_as A (Left Stopped) handed progress line why it is = is
+ends_as A (Left Aborted) handed progress line why it is = is
+ends_as A (Left Full) handed progress line why it is = is
+ends_as A (Left NoJournal) handed progress line why it is = is
+
+-- it stops where its call does
+pub taken_stops : (A : Type 0) (outcome : Outcome) (stop : Stop) (handed : List Call) (progress : Progress) (line : ℕ) (it : ListCode)
+    → Follows {A = A} outcome (Err stop) handed progress line it → Entered (Err stop) outcome handed progress line it
+taken_stops A (GoesOn steps) stop handed progress line it follows =
+    let after = after_steps progress line steps in
+    still_cut A Bool stop handed after after line it (same_records after) follows
+taken_stops A (Ends steps end why) stop handed progress line it follows = ends_as A stop handed (after_steps progress line steps) line why it follows
+
+-- it goes on where its call does
+pub taken_goes : (A : Type 0) (done : A) (outcome : Outcome) (handed : List Call) (progress : Progress) (line : ℕ) (it : ListCode)
+    → Follows {A = A} outcome (Ok done) handed progress line it → Entered (Ok false) outcome handed progress line it
+taken_goes A done (GoesOn steps) handed progress line it follows = follows
+taken_goes A done (Ends steps end why) handed progress line it follows = follows
