@@ -160,7 +160,7 @@ pub record Hangs {O E : Type 0} (written : O → Option Text) (failures : O → 
   pub errors : new_errors ≡ old_errors
 
 -- an opener that tells these texts
-module _ (told : Text → Option Text) (is_head : told (codes "head") ≡ Some head) (is_first : told (codes "r0") ≡ Some first) (is_second : told (codes "r1") ≡ Some second) where
+module _ (told : Text → Option Text) (named : Text → Option Bool) (is_head : told (codes "head") ≡ Some head) (is_first : told (codes "r0") ≡ Some first) (is_second : told (codes "r1") ≡ Some second) where
   texts_told : (files : List (Bor Text)) → map (λ file. file.now) files ≡ codes "r0" ∷ codes "r1" ∷ [] → map (λ file. told file.now) files ≡ map Some (first ∷ second ∷ [])
   texts_told files are =
       of_files told files ∙ ap (map told) are
@@ -222,7 +222,7 @@ module _ (told : Text → Option Text) (is_head : told (codes "head") ≡ Some h
           errors = subst (Becomes written_errors failed_errors old_errors new_errors) ends.errors errors;
         }
 
-    of_asked : (asked : CommandLine) (out err : Written) → Answers words asked → EndsBy told asked ended out err → Becomes written failures old new out → Becomes written_errors failed_errors old_errors new_errors err → ended ≢ status.Fault → Hangs written failures old new old_errors new_errors ended
+    of_asked : (asked : CommandLine) (out err : Written) → Answers words asked → EndsBy told named asked ended out err → Becomes written failures old new out → Becomes written_errors failed_errors old_errors new_errors err → ended ≢ status.Fault → Hangs written failures old new old_errors new_errors ended
     of_asked (Check path files its) out err answers (inl done) output errors other =
         let e : Some (CheckRun path.now (map (λ file. file.now) files.items) its) ≡ Some task = sym answers.1 ∙ asks in
         of_report path.now files.items its out err (ap head_in e) (ap files_in e) (ap options_in e) done output errors
@@ -245,8 +245,8 @@ module _ (told : Text → Option Text) (is_head : told (codes "head") ≡ Some h
     of_asked NoMemory out err answers (inr (fault, is, ends)) output errors other = absurd (other (ends.0 ∙ ap status_of_fault is))
 
 -- the program over them
-pub ends_in_hang : {O E : Type 0} {written : O → Option Text} {failures : O → ℕ} {written_errors : E → Option Text} {failed_errors : E → ℕ} {told : Text → Option Text} {old new : O} {old_errors new_errors : E} {given : List Text} {ended : Status} →
-    Ends written failures written_errors failed_errors told old new old_errors new_errors given ended → given ≡ words → told (codes "head") ≡ Some head → told (codes "r0") ≡ Some first → told (codes "r1") ≡ Some second → ended ≢ status.Fault →
+pub ends_in_hang : {O E : Type 0} {written : O → Option Text} {failures : O → ℕ} {written_errors : E → Option Text} {failed_errors : E → ℕ} {told : Text → Option Text} {named : Text → Option Bool} {old new : O} {old_errors new_errors : E} {given : List Text} {ended : Status} →
+    Ends written failures written_errors failed_errors told named old new old_errors new_errors given ended → given ≡ words → told (codes "head") ≡ Some head → told (codes "r0") ≡ Some first → told (codes "r1") ≡ Some second → ended ≢ status.Fault →
     Hangs written failures old new old_errors new_errors ended
-ends_in_hang {written = written} {failures = failures} {written_errors = written_errors} {failed_errors = failed_errors} {told = told} {old = old} {new = new} {old_errors = old_errors} {new_errors = new_errors} {ended = ended} ends are is_head is_first is_second other =
-    of_asked told is_head is_first is_second written failures written_errors failed_errors old new old_errors new_errors ended ends.asked ends.out ends.err (subst (λ (w : List Text). Answers w ends.asked) are ends.answers) ends.by ends.output ends.errors other
+ends_in_hang {written = written} {failures = failures} {written_errors = written_errors} {failed_errors = failed_errors} {told = told} {named = named} {old = old} {new = new} {old_errors = old_errors} {new_errors = new_errors} {ended = ended} ends are is_head is_first is_second other =
+    of_asked told named is_head is_first is_second written failures written_errors failed_errors old new old_errors new_errors ended ends.asked ends.out ends.err (subst (λ (w : List Text). Answers w ends.asked) are ends.answers) ends.by ends.output ends.errors other

@@ -1,47 +1,64 @@
--- What faults of `judge` and `close` leave on standard output.
-use Rattle.std.proofs.Common.{◌≡◌, ◌≢◌, ℕ, Option, List, refl, sym, subst}
+-- Which faults of `judge` and `close` are reported, and what they leave on standard output.
+use Rattle.std.proofs.Common.{◌≡◌, ℕ, Option, Bor, refl}
 use Rattle.clap.specs.Walk.{Text}
-use Rattle.judging.specs.Judging.{LeavesAt}
+use Rattle.judging.specs.Closing.{IsFaultOfClose as IsFaultOfClosing}
+use Rattle.judging.specs.JournalTexts.{Known, IsFaultOfFiles}
+use Rattle.judging.specs.Judging.{IsFaultOfJudge as IsFaultOfJudging, LeavesAt}
+use Rattle.judging.specs.declared.close.CloseFault.{CloseFault}
+use Rattle.judging.specs.declared.close.CloseFault.TheVariants as closed
 use Rattle.judging.specs.declared.judge.JudgeFault.{JudgeFault}
 use Rattle.judging.specs.declared.judge.JudgeFault.TheVariants as judged
-use Rattle.cli.specs.Journals.{IsFaultOfJournals, IsFaultOfJudge, IsFaultOfClose}
-use Rattle.cli.specs.inner.Journals.{IsWriteAs}
+use Rattle.judging.specs.declared.read.ReadFault.{ReadFault}
+use Rattle.judging.specs.declared.read.ReadFault.TheVariants as read
+use Rattle.cli.specs.Journals.{IsFaultOfJudge, IsFaultOfClose}
+use Rattle.cli.specs.inner.Journals.{of_read, of_judge, of_close}
 use Rattle.cli.specs.inner.Outputs.{LeavesAtFault}
-use Rattle.cli.specs.declared.fault.Fault.{Fault}
-use Rattle.cli.specs.declared.fault.Fault.TheVariants.{OpenJournal, RefusedJournal, FailedJournal, Make, Head, Refused, Memory, Unproved, Write, WriteFile}
-
--- no fault of reading journals is one of writing
-pub no_write : (folder : Text) (fault : Fault) → IsFaultOfJournals folder fault → fault ≢ Write
-no_write folder fault is same = subst (λ (f : Fault). IsFaultOfJournals folder f) same is
 
 -- a fault of reading journals is one of `judge`, and of `close`
-pub of_judge : (folder : Text) (fault : Fault) → IsFaultOfJournals folder fault → IsFaultOfJudge folder fault
-of_judge folder (OpenJournal path rank) is = is
-of_judge folder (RefusedJournal rank fault) is = tt
-of_judge folder (FailedJournal rank line) is = tt
-of_judge folder Memory is = tt
-of_judge folder (Head fault) is = tt
-of_judge folder (Refused refusal) is = tt
-of_judge folder (Unproved rank) is = tt
-of_judge folder Write is = tt
-of_judge folder fault is = absurd is
+read_in_judge : (known : Known) (folder : Bor Text) (fault : ReadFault) → IsFaultOfFiles known fault → IsFaultOfJudge known folder.now (of_read folder fault)
+read_in_judge known folder (read.Open rank) is = (refl, is)
+read_in_judge known folder (read.Refused rank fault) is = is
+read_in_judge known folder (read.ReadFailed rank line) is = is
+read_in_judge known folder read.Memory is = tt
 
-pub of_close : (folder out : Text) (fault : Fault) → IsFaultOfJournals folder fault → IsFaultOfClose folder out fault
-of_close folder out (OpenJournal path rank) is = is
-of_close folder out (RefusedJournal rank fault) is = tt
-of_close folder out (FailedJournal rank line) is = tt
-of_close folder out Memory is = tt
-of_close folder out fault is = absurd is
+read_in_close : (known : Known) (folder out : Bor Text) (fault : ReadFault) → IsFaultOfFiles known fault → IsFaultOfClose known folder.now out.now (of_read folder fault)
+read_in_close known folder out (read.Open rank) is = (refl, is)
+read_in_close known folder out (read.Refused rank fault) is = is
+read_in_close known folder out (read.ReadFailed rank line) is = is
+read_in_close known folder out read.Memory is = tt
 
--- an output that is as it was
-pub as_left : {O : Type 0} (written : O → Option Text) (failures : O → ℕ) (old new : O) (fault : Fault) → fault ≢ Write → new ≡ old → LeavesAtFault written failures old new fault
-as_left written failures old new Write other same = absurd (other refl)
-as_left written failures old new fault other same = same
+pub may_judge : (known : Known) (folder : Bor Text) (fault : JudgeFault) → IsFaultOfJudging known fault → IsFaultOfJudge known folder.now (of_judge folder fault)
+may_judge known folder (judged.Read fault) is = read_in_judge known folder fault is
+may_judge known folder (judged.Head fault) is = is
+may_judge known folder (judged.Refused refusal) is = is
+may_judge known folder judged.Unended is = is
+may_judge known folder judged.Memory is = tt
+may_judge known folder judged.Write is = tt
 
-pub judged_left : {O : Type 0} (written : O → Option Text) (failures : O → ℕ) (old new : O) (fault : JudgeFault) (reported : Fault) → IsWriteAs fault reported → LeavesAt written failures old new fault → LeavesAtFault written failures old new reported
-judged_left written failures old new judged.Write reported is left = subst (λ (f : Fault). LeavesAtFault written failures old new f) (sym is) (left.0, (left.1, left.2))
-judged_left written failures old new (judged.Read fault) reported is left = as_left written failures old new reported is left
-judged_left written failures old new (judged.Head fault) reported is left = as_left written failures old new reported is left
-judged_left written failures old new (judged.Refused refusal) reported is left = as_left written failures old new reported is left
-judged_left written failures old new judged.Unended reported is left = as_left written failures old new reported is left
-judged_left written failures old new judged.Memory reported is left = as_left written failures old new reported is left
+pub may_close : (known : Known) (folder out : Bor Text) (fault : CloseFault) → IsFaultOfClosing known fault → IsFaultOfClose known folder.now out.now (of_close folder out fault)
+may_close known folder out (closed.Read fault) is = read_in_close known folder out fault is
+may_close known folder out closed.Make is = refl
+may_close known folder out closed.Write is = tt
+may_close known folder out closed.Memory is = tt
+
+-- what they leave
+module _ {O : Type 0} (written : O → Option Text) (failures : O → ℕ) (old new : O) where
+  read_left : (folder : Bor Text) (fault : ReadFault) → new ≡ old → LeavesAtFault written failures old new (of_read folder fault)
+  read_left folder (read.Open rank) same = same
+  read_left folder (read.Refused rank fault) same = same
+  read_left folder (read.ReadFailed rank line) same = same
+  read_left folder read.Memory same = same
+
+  pub judged_left : (folder : Bor Text) (fault : JudgeFault) → LeavesAt written failures old new fault → LeavesAtFault written failures old new (of_judge folder fault)
+  judged_left folder (judged.Read fault) left = read_left folder fault left
+  judged_left folder (judged.Head fault) left = left
+  judged_left folder (judged.Refused refusal) left = left
+  judged_left folder judged.Unended left = left
+  judged_left folder judged.Memory left = left
+  judged_left folder judged.Write left = (left.0, (left.1, left.2))
+
+  pub closed_left : (folder out : Bor Text) (fault : CloseFault) → new ≡ old → LeavesAtFault written failures old new (of_close folder out fault)
+  closed_left folder out (closed.Read fault) same = read_left folder fault same
+  closed_left folder out closed.Make same = same
+  closed_left folder out closed.Write same = same
+  closed_left folder out closed.Memory same = same

@@ -1,15 +1,17 @@
 -- How the program ends, by what its words ask for: its status, and what is written on the two outputs.
-use Rattle.std.specs.Prelude.{◌≡◌, ◌⊎◌, ℕ, true, false, Option, Some, List, map, string_bytes}
+use Rattle.std.specs.Prelude.{◌≡◌, ◌⊎◌, ℕ, Bool, true, false, Option, Some, List, map, string_bytes}
 use Rattle.clap.specs.Walk.{Text}
 use Rattle.waitgraph.specs.declared.verdict.Verdict.{Verdict}
 use Rattle.cli.specs.CommandLine.{Answers}
 use Rattle.cli.specs.Faults.{status_of_fault}
 use Rattle.cli.specs.FaultTexts.{line_of_fault}
 use Rattle.cli.specs.Outputs.{Written, Nothing, Whole, Broken, Becomes, lint_report}
+use Rattle.cli.specs.JournalFolders.{known_in}
 use Rattle.cli.specs.Journals.{IsFaultOfClose, IsFaultOfJudge}
 use Rattle.cli.specs.Lints.{IsCountOf, IsFaultOfLint}
 use Rattle.cli.specs.Statuses.{status_of_verdict}
 use Rattle.cli.specs.Texts.{IsFaultOfCheck, IsReportOf, IsVerdictOfTexts}
+use Rattle.judging.specs.JournalTexts.{Known}
 use Rattle.judging.specs.Judging.{IsJudgedReport}
 use Rattle.judging.specs.declared.judge.Manner.{Manner}
 use Rattle.cli.specs.declared.options.Options.{Options}
@@ -44,12 +46,12 @@ pub record EndsInCount (text : Option Text) (status : Status) (out err : Written
   pub output : out ≡ Whole (lint_report count)
   pub errors : err ≡ Nothing
 
--- journals were judged: the report of a closed recording is on standard output alone, in its format, and the status is
--- that of its verdict. That the recording is that of the journals isn't said here
-pub record EndsInJudged (manner : Manner) (status : Status) (out err : Written) : Type 0 where
+-- journals were judged: their report is on standard output alone, in its format, and the status is that of its verdict.
+-- It is that of a closed recording: where the files are known, that of the run which they hold
+pub record EndsInJudged (known : Known) (manner : Manner) (status : Status) (out err : Written) : Type 0 where
   pub verdict : Verdict
   pub report : Text
-  pub is_report : IsJudgedReport manner.reading manner.format verdict report
+  pub is_report : IsJudgedReport known manner verdict report
   pub status_is : status ≡ status_of_verdict verdict
   pub output : out ≡ Whole report
   pub errors : err ≡ Nothing
@@ -86,37 +88,37 @@ abbrev pub EndsInFault : FaultOf → Status → Written → Written → Type 0
 EndsInFault fault status out err = (status ≡ status_of_fault fault) × TellsLine status fault out err
 
 -- what the words ask for was done, and reported
-abbrev pub IsDone : (Text → Option Text) → CommandLine → Status → Written → Written → Type 0
-IsDone told (Check head files options) = EndsInReport options (told head.now) (map (λ file. told file.now) files.items)
-IsDone told (Lint file) = EndsInCount (told file.now)
-IsDone told (Judge folder manner) = EndsInJudged manner
-IsDone told (Close folder out choice) = EndsInFiles
-IsDone told (Said text false) = EndsInText (string_bytes text)
-IsDone told (Said text true) = EndsInUsage (string_bytes text)
-IsDone told NoMemory = λ status out err. ⊥
+abbrev pub IsDone : (Text → Option Text) → (Text → Option Bool) → CommandLine → Status → Written → Written → Type 0
+IsDone told named (Check head files options) = EndsInReport options (told head.now) (map (λ file. told file.now) files.items)
+IsDone told named (Lint file) = EndsInCount (told file.now)
+IsDone told named (Judge folder manner) = EndsInJudged (known_in told named folder.now) manner
+IsDone told named (Close folder out choice) = EndsInFiles
+IsDone told named (Said text false) = EndsInText (string_bytes text)
+IsDone told named (Said text true) = EndsInUsage (string_bytes text)
+IsDone told named NoMemory = λ status out err. ⊥
 
 -- the faults with which that may end
-abbrev pub IsFaultOf : (Text → Option Text) → CommandLine → FaultOf → Type 0
-IsFaultOf told (Check head files options) fault = IsFaultOfCheck told head.now files.items fault
-IsFaultOf told (Lint file) fault = IsFaultOfLint told file.now fault
-IsFaultOf told (Judge folder manner) fault = IsFaultOfJudge folder.now fault
-IsFaultOf told (Close folder out choice) fault = IsFaultOfClose folder.now out.now fault
-IsFaultOf told (Said text is_error) fault = (fault ≡ Write) × (is_error ≡ false)
-IsFaultOf told NoMemory fault = fault ≡ Memory
+abbrev pub IsFaultOf : (Text → Option Text) → (Text → Option Bool) → CommandLine → FaultOf → Type 0
+IsFaultOf told named (Check head files options) fault = IsFaultOfCheck told head.now files.items fault
+IsFaultOf told named (Lint file) fault = IsFaultOfLint told file.now fault
+IsFaultOf told named (Judge folder manner) fault = IsFaultOfJudge (known_in told named folder.now) folder.now fault
+IsFaultOf told named (Close folder out choice) fault = IsFaultOfClose (known_in told named folder.now) folder.now out.now fault
+IsFaultOf told named (Said text is_error) fault = (fault ≡ Write) × (is_error ≡ false)
+IsFaultOf told named NoMemory fault = fault ≡ Memory
 
 -- what the words ask for was done, or a fault was reported
-abbrev pub EndsBy : (Text → Option Text) → CommandLine → Status → Written → Written → Type 0
-EndsBy told words status out err = IsDone told words status out err ⊎ ((fault : FaultOf) × IsFaultOf told words fault × EndsInFault fault status out err)
+abbrev pub EndsBy : (Text → Option Text) → (Text → Option Bool) → CommandLine → Status → Written → Written → Type 0
+EndsBy told named words status out err = IsDone told named words status out err ⊎ ((fault : FaultOf) × IsFaultOf told named words fault × EndsInFault fault status out err)
 
 -- standard output and standard error, each by what was written to it and how many writes failed, and as it was
--- and as it is; and the texts of files, where they are known
-module _ {O E : Type 0} (written : O → Option Text) (failures : O → ℕ) (written_errors : E → Option Text) (failed_errors : E → ℕ) (told : Text → Option Text) (old new : O) (old_errors new_errors : E) where
+-- and as it is; the texts of files, and which there are, where that is known
+module _ {O E : Type 0} (written : O → Option Text) (failures : O → ℕ) (written_errors : E → Option Text) (failed_errors : E → ℕ) (told : Text → Option Text) (named : Text → Option Bool) (old new : O) (old_errors new_errors : E) where
   -- the words ask for something, and the program ends by that
   pub record Ends (words : List Text) (status : Status) : Type 0 where
     pub asked : CommandLine
     pub answers : Answers words asked
     pub out : Written
     pub err : Written
-    pub by : EndsBy told asked status out err
+    pub by : EndsBy told named asked status out err
     pub output : Becomes written failures old new out
     pub errors : Becomes written_errors failed_errors old_errors new_errors err

@@ -1,29 +1,31 @@
--- Which faults `judge` and `close` report. That they are those of the journals' texts, and that no recording of journals
--- is refused, isn't said here.
+-- Which faults `judge` and `close` report: where the files of the journals are known, those of the files.
 use Rattle.std.specs.Prelude.{◌≡◌, ⊤}
 use Rattle.clap.specs.Walk.{Text}
+use Rattle.judging.specs.JournalTexts.{Known, IsFaultOfFiles}
+use Rattle.judging.specs.Judging.{HoldNoRun}
+use Rattle.judging.specs.declared.read.ReadFault.TheVariants as read
 use Rattle.cli.specs.declared.fault.Fault.{Fault}
 use Rattle.cli.specs.declared.fault.Fault.TheVariants.{OpenJournal, RefusedJournal, FailedJournal, Make, Head, Refused, Memory, Unproved, Write, WriteFile}
 
--- the faults of reading the journals in a folder
-abbrev pub IsFaultOfJournals : Text → Fault → Type 0
-IsFaultOfJournals folder (OpenJournal path rank) = path.now ≡ folder
-IsFaultOfJournals folder (RefusedJournal rank fault) = ⊤
-IsFaultOfJournals folder (FailedJournal rank line) = ⊤
-IsFaultOfJournals folder Memory = ⊤
-IsFaultOfJournals folder fault = ⊥
+-- the faults of reading the journals in a folder are those of their files
+abbrev pub IsFaultOfJournals : Known → Text → Fault → Type 0
+IsFaultOfJournals known folder (OpenJournal path rank) = (path.now ≡ folder) × IsFaultOfFiles known (read.Open rank)
+IsFaultOfJournals known folder (RefusedJournal rank fault) = IsFaultOfFiles known (read.Refused rank fault)
+IsFaultOfJournals known folder (FailedJournal rank line) = IsFaultOfFiles known (read.ReadFailed rank line)
+IsFaultOfJournals known folder Memory = ⊤
+IsFaultOfJournals known folder fault = ⊥
 
--- these, those of their recording, and a failed write
-abbrev pub IsFaultOfJudge : Text → Fault → Type 0
-IsFaultOfJudge folder (Head fault) = ⊤
-IsFaultOfJudge folder (Refused refusal) = ⊤
-IsFaultOfJudge folder (Unproved rank) = ⊤
-IsFaultOfJudge folder Write = ⊤
-IsFaultOfJudge folder fault = IsFaultOfJournals folder fault
+-- these, and a failed write; a fault of their recording only where the files aren't known to hold a run
+abbrev pub IsFaultOfJudge : Known → Text → Fault → Type 0
+IsFaultOfJudge known folder (Head fault) = HoldNoRun known
+IsFaultOfJudge known folder (Refused refusal) = HoldNoRun known
+IsFaultOfJudge known folder (Unproved rank) = HoldNoRun known
+IsFaultOfJudge known folder Write = ⊤
+IsFaultOfJudge known folder fault = IsFaultOfJournals known folder fault
 
--- the folder of the recording can't be made, or a file in it can't be written
-abbrev pub IsFaultOfClose : Text → Text → Fault → Type 0
-IsFaultOfClose folder out (Make path) = path.now ≡ out
-IsFaultOfClose folder out WriteFile = ⊤
-IsFaultOfClose folder out Write = ⊤
-IsFaultOfClose folder out fault = IsFaultOfJournals folder fault
+-- these; the folder of the recording can't be made, or a file in it can't be written
+abbrev pub IsFaultOfClose : Known → Text → Text → Fault → Type 0
+IsFaultOfClose known folder out (Make path) = path.now ≡ out
+IsFaultOfClose known folder out WriteFile = ⊤
+IsFaultOfClose known folder out Write = ⊤
+IsFaultOfClose known folder out fault = IsFaultOfJournals known folder fault

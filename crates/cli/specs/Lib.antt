@@ -8,6 +8,7 @@ pub mod Statuses
 pub mod Faults
 pub mod FaultTexts
 pub mod Outputs
+pub mod JournalFolders
 pub mod ExitContract
 pub mod Texts
 pub mod Journals

@@ -114,7 +114,7 @@ where
     O: Output,
     E: Output,
     R: Threads + Wait + Sync,
-    ensures ended { IfOk result (EndsBySome O.written O.failures E.written E.failures (P.told opener.now) out.old out.new err.old err.new) }
+    ensures ended { IfOk result (EndsBySome O.written O.failures E.written E.failures (P.told opener.now) (P.named opener.now) out.old out.new err.old err.new) }
     ensures untouched { OnErr result ((out.new ≡ out.old) × (err.new ≡ err.old)) }
 {
     let words = with_files(given.alloc(), opener, words_given(given)?)?;
@@ -131,7 +131,7 @@ where
     O: Output,
     E: Output,
     R: Threads + Wait + Sync,
-    ensures { EndsGiven O.written O.failures E.written E.failures (P.told opener.now) out.old out.new err.old err.new (status_in result) }
+    ensures { EndsGiven O.written O.failures E.written E.failures (P.told opener.now) (P.named opener.now) out.old out.new err.old err.new (status_in result) }
 {
     let status = match status_on(given, opener, rt, out, err) {
         Ok(status) => status,

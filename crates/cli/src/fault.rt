@@ -5,7 +5,7 @@ ghost use Rattle.cli.specs.FaultTexts.{journal_words, text_of_fault};
 ghost use Rattle.gather.specs.declared.fault.RankFault.TheVariants.{OfSource};
 ghost use Rattle.driver.specs.VerdictContract.{is_from_outside};
 ghost use Rattle.cli.specs.Faults.{of_head, of_lint, of_run, status_of_fault};
-ghost use Rattle.cli.specs.Journals.{IsFaultOfJournals};
+ghost use Rattle.cli.specs.inner.Journals.{of_read};
 ghost use Rattle.cli.specs.declared.fault.Fault.TheVariants.{Memory};
 
 use crate::status::Status;
@@ -100,7 +100,7 @@ impl Error for Fault<'_> {}
 impl<'a> Fault<'a> {
     /// The fault of the journals in a folder.
     pub(crate) fn of_journals(folder: &'a str, fault: ReadFault) -> Fault<'a>
-        ensures { IsFaultOfJournals folder.now result }
+        ensures { result ≡ of_read folder.entry fault }
     {
         match fault {
             ReadFault::Open(rank) => Fault::OpenJournal { folder, rank },

@@ -1,12 +1,13 @@
 //! The whole program, over any files and outputs.
 
-ghost use Rattle.std.specs.Prelude.{◌≡◌, ◌≢◌, map};
+ghost use Rattle.std.specs.Prelude.{◌≡◌, map};
 ghost use Rattle.cli.specs.inner.Answer.{Complains, IsAnswered, Refuses, Shows, TellsFaultLine};
 ghost use Rattle.cli.specs.ExitContract.{Ends, EndsInCount, EndsInFiles, EndsInJudged, EndsInReport, IsDone, IsFaultOf};
 ghost use Rattle.cli.specs.FaultTexts.{line_of_fault};
 ghost use Rattle.cli.specs.Faults.{status_of_fault};
+ghost use Rattle.cli.specs.JournalFolders.{known_in};
 ghost use Rattle.cli.specs.Journals.{IsFaultOfClose, IsFaultOfJudge};
-ghost use Rattle.cli.specs.inner.Journals.{IsWriteAs};
+ghost use Rattle.cli.specs.inner.Journals.{of_close, of_judge};
 ghost use Rattle.cli.specs.Lints.{IsFaultOfLint};
 ghost use Rattle.cli.specs.Outputs.{Tries};
 ghost use Rattle.cli.specs.Statuses.{status_of_verdict};
@@ -111,10 +112,8 @@ fn answer_lint<'a, P: Opener, O: Output>(
 }
 
 /// Why journals in a folder weren't judged.
-#[tactic(auto, using(crate::proofs::JournalLemmas::no_write, crate::proofs::JournalLemmas::of_judge))]
 fn fault_of_judge<'a>(folder: &'a str, fault: JudgeFault) -> Fault<'a>
-    ensures may { IsFaultOfJudge folder.now result }
-    ensures write { IsWriteAs fault result }
+    ensures { result ≡ of_judge folder.entry fault }
 {
     match fault {
         JudgeFault::Read(fault) => Fault::of_journals(folder, fault),
@@ -133,7 +132,8 @@ fn answer_judge<'a, P: Opener, O: Output>(
     wait: &impl Wait,
     out: &mut O,
 ) -> Result<Status, Complaint<'a>>
-    ensures { IsAnswered O.written O.failures (EndsInJudged manner) (IsFaultOfJudge journals.now.path.now) out.old out.new result }
+    ensures { let known = known_in (P.told journals.now.opener.now) (P.named journals.now.opener.now) journals.now.path.now in
+        IsAnswered O.written O.failures (EndsInJudged known manner) (IsFaultOfJudge known journals.now.path.now) out.old out.new result }
 {
     match judge(journals.alloc, journals, manner, wait, out) {
         Ok(verdict) => Ok(status_of(verdict)),
@@ -145,10 +145,8 @@ fn answer_judge<'a, P: Opener, O: Output>(
 }
 
 /// Why the recording of journals in a folder wasn't written.
-#[tactic(auto, using(crate::proofs::JournalLemmas::no_write, crate::proofs::JournalLemmas::of_close))]
 fn fault_of_close<'a>(folder: &'a str, path: &'a str, fault: CloseFault) -> Fault<'a>
-    ensures may { IsFaultOfClose folder.now path.now result }
-    ensures unwritten { result ≢ Fault.Write }
+    ensures { result ≡ of_close folder.entry path.entry fault }
 {
     match fault {
         CloseFault::Read(fault) => Fault::of_journals(folder, fault),
@@ -161,17 +159,19 @@ fn fault_of_close<'a>(folder: &'a str, path: &'a str, fault: CloseFault) -> Faul
 /// Writes the recording of the journals in a folder into another one.
 fn answer_close<'a, P: Opener + Maker, O: Output>(
     journals: &JournalFolder<'_, 'a, P>,
-    made: &RecordingFolder<'_, 'a, P>,
+    made: &mut RecordingFolder<'_, 'a, P>,
     choice: Choice,
     wait: &impl Wait,
     out: &mut O,
 ) -> Result<Status, Complaint<'a>>
-    ensures { IsAnswered O.written O.failures EndsInFiles (IsFaultOfClose journals.now.path.now made.now.path.now) out.old out.new result }
+    ensures { let known = known_in (P.told journals.now.opener.now) (P.named journals.now.opener.now) journals.now.path.now in
+        IsAnswered O.written O.failures EndsInFiles (IsFaultOfClose known journals.now.path.now made.old.path.now) out.old out.new result }
 {
+    let path = made.path;
     match close(journals.alloc, journals, choice, made, wait) {
         Ok(()) => Ok(Status::Free),
         Err(fault) => {
-            let fault = fault_of_close(journals.path, made.path, fault);
+            let fault = fault_of_close(journals.path, path, fault);
             refuse(journals.alloc, fault, out)
         }
     }
@@ -185,7 +185,7 @@ fn answer<'a, P: Opener + Maker, O: Output, R: Threads + Wait + Sync>(
     rt: &R,
     out: &mut O,
 ) -> Result<Status, Complaint<'a>>
-    ensures { IsAnswered O.written O.failures (IsDone (P.told opener.now) words.entry) (IsFaultOf (P.told opener.now) words.entry) out.old out.new result }
+    ensures { IsAnswered O.written O.failures (IsDone (P.told opener.now) (P.named opener.now) words.entry) (IsFaultOf (P.told opener.now) (P.named opener.now) words.entry) out.old out.new result }
 {
     match words {
         CommandLine::Check {
@@ -204,8 +204,8 @@ fn answer<'a, P: Opener + Maker, O: Output, R: Threads + Wait + Sync>(
             choice,
         } => {
             let journals = JournalFolder::new(alloc, opener, folder);
-            let made = RecordingFolder::new(alloc, opener, path);
-            answer_close(&journals, &made, choice, rt, out)
+            let mut made = RecordingFolder::new(alloc, opener, path);
+            answer_close(&journals, &mut made, choice, rt, out)
         }
         CommandLine::Said {
             text,
@@ -273,7 +273,7 @@ pub fn program<P: Opener + Maker, O: Output, E: Output, R: Threads + Wait + Sync
     out: &mut O,
     err: &mut E,
 ) -> Status
-    ensures { Ends O.written O.failures E.written E.failures (P.told opener.now) out.old out.new err.old err.new (map (λ word. word.now) words.now) result }
+    ensures { Ends O.written O.failures E.written E.failures (P.told opener.now) (P.named opener.now) out.old out.new err.old err.new (map (λ word. word.now) words.now) result }
 {
     match answer(alloc, parse(alloc, words), opener, rt, out) {
         Ok(status) => status,

@@ -1,3 +1,16 @@
+pub mod RanksLemmas
+pub mod FileLemmas
+pub mod OneLemmas
 pub mod UnwrittenLemmas
+pub mod HandLemmas
+pub mod HeadTextLemmas
+pub mod HeadOf
+pub mod TurnOrders
 pub mod TurnLemmas
+pub mod LeftLemmas
 pub mod JudgedLemmas
+pub mod JudgeLemmas
+pub mod PutLemmas
+pub mod CloseLemmas
+pub mod BegunLemmas
+pub mod ReportedLemmas

@@ -1,2 +1,4 @@
+pub mod Closing
+pub mod JournalTexts
 pub mod Judging
 pub mod inner

@@ -1,7 +1,12 @@
 //! The entries of all ranks, taken by turns, and their records handed to what judges them.
 
-ghost use Rattle.std.specs.Prelude.{◌≡◌, ◌<◌, length, IfErr};
-ghost use Rattle.judging.specs.inner.Unwritten.{IsUnwritten, KeepsRanks};
+ghost use Rattle.std.specs.Prelude.{◌≡◌, ◌==◌, ◌<◌, ◌^◌, ◌&&◌, ℕ, true, None, length, IfErr, IfOk, OnOk};
+ghost use Rattle.callstore.specs.Recordings.{appended, calls_of};
+ghost use Rattle.pairing.specs.Faults.{fault_of};
+ghost use Rattle.closing.specs.Recordings.{count_at};
+ghost use Rattle.judging.specs.declared.judge.JudgeFault.TheVariants.{Memory};
+ghost use Rattle.judging.specs.inner.Turns.{HandsOn, HasAll, HasTurn, HaveNoFault, HaveTurns, IsWithIt, appended_all};
+ghost use Rattle.judging.specs.inner.Unwritten.{IsOfRecording, KeepsRanks};
 
 use crate::judge::JudgeFault;
 use closing::recording::Recording;
@@ -68,14 +73,24 @@ fn ranks_of(analyser: &Analyser) -> u16
     analyser.head().ranks()
 }
 
+/// Whether both are so.
+fn are_both(first: bool, next: bool) -> bool
+    ensures { result ≡ (first && next) }
+{
+    first && next
+}
+
 /// Offers a record of a rank.
 #[tactic(auto, using(crate::proofs::TurnLemmas::turn_steps))]
-fn offer(analyser: &mut Analyser, rank: u16, record: &Record) -> Result<(), JudgeFault>
+fn offer(analyser: &mut Analyser, rank: u16, call: &Record) -> Result<(), JudgeFault>
     requires { rank < length analyser.old.recording }
     ensures kept { KeepsRanks analyser.old analyser.new }
-    ensures fault { IfErr result IsUnwritten }
+    ensures fault { IfErr result IsOfRecording }
+    ensures more { OnOk result (analyser.new.recording ≡ appended analyser.old.recording rank call.now) }
+    ensures lawful { IfErr result (λ fault.
+        fault_of analyser.old.groups rank (calls_of analyser.old.recording rank) call.now ≡ None → fault ≡ Memory) }
 {
-    match analyser.offer(rank, record) {
+    match analyser.offer(rank, call) {
         Ok(()) => Ok(()),
         Err(OfferFault::Refused(fault)) => Err(JudgeFault::Refused(Refusal {
             rank,
@@ -91,7 +106,10 @@ fn offer(analyser: &mut Analyser, rank: u16, record: &Record) -> Result<(), Judg
 fn offer_all(analyser: &mut Analyser, rank: u16, records: &[Record]) -> Result<(), JudgeFault>
     requires { rank < length analyser.old.recording }
     ensures kept { KeepsRanks analyser.old analyser.new }
-    ensures fault { IfErr result IsUnwritten }
+    ensures fault { IfErr result IsOfRecording }
+    ensures more { OnOk result (analyser.new.recording ≡ appended_all analyser.old.recording rank records.now) }
+    ensures lawful { IfErr result (λ fault.
+        HaveNoFault analyser.old.groups rank (calls_of analyser.old.recording rank) records.now → fault ≡ Memory) }
 {
     for record in records {
         offer(analyser, rank, record)?;
@@ -105,7 +123,10 @@ impl Lists {
     fn hand_on(&mut self, rank: u16, analyser: &mut Analyser) -> Result<(), JudgeFault>
         requires { rank < length analyser.old.recording }
         ensures kept { KeepsRanks analyser.old analyser.new }
-        ensures fault { IfErr result IsUnwritten }
+        ensures fault { IfErr result IsOfRecording }
+        ensures with_it { OnOk result (IsWithIt self.old.recording analyser.old → IsWithIt self.new.recording analyser.new) }
+        ensures lawful { IfErr result (λ fault. IsWithIt self.old.recording analyser.old → fault ≡ Memory) }
+        ensures handed { OnOk result (IsWithIt self.old.recording analyser.old → HandsOn rank self.old.recording self.new.recording) }
     {
         let records = self.recording.records(rank);
         self.table
@@ -120,16 +141,20 @@ impl Lists {
     fn take_a_turn(&mut self, rank: u16, analyser: &mut Analyser) -> Result<(), JudgeFault>
         requires { rank < length analyser.old.recording }
         ensures kept { KeepsRanks analyser.old analyser.new }
-        ensures fault { IfErr result IsUnwritten }
+        ensures fault { IfErr result IsOfRecording }
+        ensures with_it { OnOk result (IsWithIt self.old.recording analyser.old → IsWithIt self.new.recording analyser.new) }
+        ensures lawful { IfErr result (λ fault. IsWithIt self.old.recording analyser.old → fault ≡ Memory) }
+        ensures turn { OnOk result (IsWithIt self.old.recording analyser.old → HasTurn rank self.old.recording self.new.recording) }
     {
-        for _ in 0..ENTRIES_A_TURN {
+        for _entry in 0..ENTRIES_A_TURN {
             self.hand_on(rank, analyser)?;
             if self.recording.is_over(rank) {
                 return Ok(());
             }
             self.recording.step(rank)?;
         }
-        self.hand_on(rank, analyser)
+        self.hand_on(rank, analyser)?;
+        Ok(())
     }
 
     /// Takes a turn of a rank, unless its list has ended; says whether it has then.
@@ -137,7 +162,12 @@ impl Lists {
     fn take_next(&mut self, rank: u16, analyser: &mut Analyser) -> Result<bool, JudgeFault>
         requires { rank < length analyser.old.recording }
         ensures kept { KeepsRanks analyser.old analyser.new }
-        ensures fault { IfErr result IsUnwritten }
+        ensures fault { IfErr result IsOfRecording }
+        ensures with_it { OnOk result (IsWithIt self.old.recording analyser.old → IsWithIt self.new.recording analyser.new) }
+        ensures lawful { IfErr result (λ fault. IsWithIt self.old.recording analyser.old → fault ≡ Memory) }
+        ensures turn { OnOk result (IsWithIt self.old.recording analyser.old → HasTurn rank self.old.recording self.new.recording) }
+        ensures over { IfOk result (λ is_over. is_over ≡ (count_at self.new.recording.left rank == 0)) }
+        ensures few { OnOk result (count_at self.old.recording.left rank < 2 ^ 32) }
     {
         if self.recording.is_over(rank) && self.recording.records(rank).is_empty() {
             return Ok(true);
@@ -150,12 +180,18 @@ impl Lists {
     #[tactic(auto, using(crate::proofs::TurnLemmas::turn_steps))]
     fn take_a_round(&mut self, analyser: &mut Analyser) -> Result<bool, JudgeFault>
         ensures kept { KeepsRanks analyser.old analyser.new }
-        ensures fault { IfErr result IsUnwritten }
+        ensures fault { IfErr result IsOfRecording }
+        ensures with_it { OnOk result (IsWithIt self.old.recording analyser.old → IsWithIt self.new.recording analyser.new) }
+        ensures lawful { IfErr result (λ fault. IsWithIt self.old.recording analyser.old → fault ≡ Memory) }
+        ensures turns { OnOk result (IsWithIt self.old.recording analyser.old →
+            HaveTurns (length analyser.old.recording) self.old.recording self.new.recording) }
+        ensures over { IfOk result (λ are_over. IsWithIt self.old.recording analyser.old → are_over ≡ true →
+            (rank : ℕ) → rank < length analyser.old.recording → count_at self.new.recording.left rank ≡ 0) }
     {
         let mut are_over = true;
         for rank in 0..ranks_of(analyser) {
             let is_over = self.take_next(rank, analyser)?;
-            are_over = are_over && is_over;
+            are_over = are_both(are_over, is_over);
         }
         Ok(are_over)
     }
@@ -164,9 +200,12 @@ impl Lists {
     #[tactic(auto, using(crate::proofs::TurnLemmas::turn_steps))]
     pub(crate) fn take_all(&mut self, analyser: &mut Analyser) -> Result<(), JudgeFault>
         ensures kept { KeepsRanks analyser.old analyser.new }
-        ensures fault { IfErr result IsUnwritten }
+        ensures fault { IfErr result IsOfRecording }
+        ensures lawful { IfErr result (λ fault. IsWithIt self.old.recording analyser.old → fault ≡ Memory) }
+        ensures all { OnOk result (IsWithIt self.old.recording analyser.old →
+            HasAll self.old.recording self.new.recording analyser.new) }
     {
-        for _ in 0..u32::MAX {
+        for _round in 0..u32::MAX {
             if self.take_a_round(analyser)? {
                 return Ok(());
             }

@@ -1,0 +1,36 @@
+-- The report of the run that the files hold.
+use Rattle.std.proofs.Common.{ℕ, List}
+use Rattle.std.specs.Io.KnownBytes.{Appends}
+use Rattle.judging.specs.Judging.{IsFaultOfJudge, IsJudgedReport}
+use Rattle.judging.specs.inner.Reported.{IsLate, IsReportedOf}
+use Rattle.judging.proofs.JudgeLemmas.{err_as, if_ok, if_err, judged_report, judge_fault, late_fault}
+use Rattle.judging.proofs.judge.judge.Goals as goal
+
+pub returns-in_err-analyser-clause-fault : goal.returns-in_err-analyser-clause-fault
+returns-in_err-analyser-clause-fault g c =
+    let known = g.J.Journals.known c.args.journals.now in
+    let lists = c.in_ok-lists.ensures in
+    err_as c.from_residual-in_err-analyser.result c.in_err-analyser.field-0.0 (IsFaultOfJudge known) c.from_residual-in_err-analyser.ensures.1
+    (judge_fault known c.args.manner c.in_ok-lists.lists.recording lists.run lists.fresh c.in_err-analyser.field-0.0 c.in_err-analyser.ensures.fault c.in_err-analyser.ensures.lawful)
+
+pub returns-clause-written : goal.returns-clause-written
+returns-clause-written g c =
+    let known = g.J.Journals.known c.args.journals.now in
+    let written = g.O.Output.written in
+    let lists = c.in_ok-lists.ensures in
+    let it = c.analyser_of.new.lists.recording in
+    let analysed = c.in_ok-analyser.analyser in
+    if_ok c.report.result
+    (λ verdict. (report : List ℕ) × IsReportedOf it analysed c.args.manner verdict report × Appends (written c.args.out.now) (written c.report.new.out) report)
+    (λ verdict. (report : List ℕ) × IsJudgedReport known c.args.manner verdict report × Appends (written c.args.out.now) (written c.report.new.out) report)
+    (λ verdict of. (
+      of.0,
+      judged_report known c.args.manner c.in_ok-lists.lists.recording lists.run lists.fresh it analysed lists.choice c.in_ok-analyser.ensures.all verdict of.0 of.1,
+      of.2,
+    ))
+    c.report.ensures.written
+
+pub returns-clause-fault : goal.returns-clause-fault
+returns-clause-fault g c =
+    let known = g.J.Journals.known c.args.journals.now in
+    if_err c.report.result IsLate (IsFaultOfJudge known) (late_fault known) c.report.ensures.fault
