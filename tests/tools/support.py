@@ -21,6 +21,14 @@ from companions.runs import Judge  # noqa: E402
 # The place N in the program is line N of /a.py.
 SITES = "".join(f"{line}\t/a.py:{line}\n" for line in range(1, 30)).encode()
 
+# Runs of two ranks. Both send first; they hang behind such an exchange; and each asks by a test whether its message
+# was received, before it receives the other's.
+BOTH = ("send 0 1 0 4 @7 / recv 0 1 0 @8 / finalize", "send 0 0 0 4 @7 / recv 0 0 0 @8 / finalize")
+MASKED = [f"send 0 {1 - rank} 0 4 @4 / recv 0 {1 - rank} 0 @5 / recv 0 {1 - rank} 9 @7" for rank in (0, 1)]
+TESTED = [f"isend 1 0 {1 - rank} 0 4 @4 / test 1 @5 / recv 0 {1 - rank} 0 @6 / finalize" for rank in (0, 1)]
+# Calls that make two communicators of both.
+MADE = "comm_dup 0 @3 / =comm 2 0 1 / comm_dup 0 @4 / =comm 3 0 1"
+
 
 def script(name, folder=TOOLS):
     """A script as a module."""

@@ -158,6 +158,11 @@ class Documents(unittest.TestCase):
         )
         self.assertLessEqual(sum(sizes.values()), ALL_BYTES)
 
+    def test_what_no_report_speaks_of(self):
+        item = next(one for one in paragraphs(text_of("tools/README.md")) if one.startswith("- Nothing is said of"))
+        for what in ("datatypes and counts", "never freed", "other matches of a wildcard"):
+            self.assertIn(what, item)
+
     def test_links(self):
         self.each(line for name in documents() for line in broken_links(name))
 

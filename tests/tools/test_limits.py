@@ -7,6 +7,7 @@ from unittest import mock
 from support import TOP, Folders, journal
 from companions.runs import Answer
 from companions import run
+from companions.journals import Journal
 
 CHECKER = {"MPIWAIT": str(TOP / "tests/tools/judge")}
 
@@ -54,7 +55,7 @@ class Limits(Folders):
         calls = ("send 0 1 0 3", "rsend 0 1 0 5 @2", "isend 1 0 1 0 7", "irsend 2 0 1 0 9 @1", "sendrecv 0 1 0 any any 11",
                  "isendrecv 3 4 0 1 0 0 0 13", "ssend 0 1 99", "send 0 1 99", "bcast 0 99")  # fmt: skip
         self.write("journal0", journal(0, 2, " / ".join(calls)))
-        self.assertEqual(run.sizes_in(run.Run(self.folder)), [0, 3, 5, 7, 9, 11, 13])
+        self.assertEqual(Journal(self.folder, 0).sizes(), {3, 5, 7, 9, 11, 13})
 
     def test_failing(self):
         self.assertEqual(self.said("wait 3 / finalize")[0], 2)

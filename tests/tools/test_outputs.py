@@ -8,11 +8,10 @@ import xml.etree.ElementTree as XML
 from html.parser import HTMLParser
 from unittest import mock
 
-from support import Folders
+from support import BOTH, Folders
 from companions import outputs
 from companions.outputs import numbered
 
-BOTH = ("send 0 1 0 4 @7 / recv 0 1 0 @8 / finalize", "send 0 0 0 4 @7 / recv 0 0 0 @8 / finalize")
 # What JUnit's schema allows: attributes of each element, those that it requires, and its children.
 JUNIT = {
     "testsuite": ({"name", "tests", "failures", "errors", "skipped", "time"}, {"name", "tests", "failures", "errors"},

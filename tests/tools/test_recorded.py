@@ -117,6 +117,20 @@ class Speed(Folders):
             lines[0].endswith("MPI_Bsend at /a.py:1 to rank 1 with tag 4 (49,999 more alike)"), lines
         )
 
+    def test_many_findings_on_many_communicators(self):
+        many = 4_095
+        made = " / ".join(f"comm_dup 0 @3 / =comm {comm} 0 1" for comm in range(2, many + 2))
+        calls = [" / ".join(f"bcast {comm} {root} @1" for comm in range(2, many + 2)) for root in (0, 1)]
+        self.run_of(*[f"{made} / {one} / finalize" for one in calls])
+        report = {"causes": [], "ranks": [], "left": [], "verdict": "free",
+                  "lines": [[rank, many + at, 2 * many + at + 2] for rank in (0, 1) for at in range(many)],
+                  "findings": [f"root {comm} 0 1 0 1" for comm in range(1, many + 1)]}  # fmt: skip
+        began = time.process_time()
+        lines = finding_lines(View(Run(self.folder / "journal"), report))
+        self.assertLess(time.process_time() - began, 4)  # half a second on a machine without other work
+        self.assertEqual(len(lines), 1)
+        self.assertTrue(lines[0].endswith(" with root 1 (4,094 more alike)"), lines)
+
     def test_many_sends_that_nobody_receives_and_many_ranks_that_wait(self):
         ranks, many = 1000, 100_000
         sends = " / ".join(f"bsend 0 {1 + at % (ranks - 1)} 4 @1" for at in range(many))
@@ -220,6 +234,13 @@ class Places(Folders):
         with mock.patch("subprocess.run", return_value=mock.Mock(stdout=said.encode())):
             found = places.Places([mock.Mock(sites=lambda: {1: ["/x+0x20", "/x+0x30"]})])
             self.assertEqual(found.where(0, 1), "/src/a.c:9")
+
+    def test_what_calls_a_program_of_fortran_is_left_out(self):
+        for name in ("ring", "main", "MAIN__"):
+            said = f"0x1f\n{name}\n/src/ring.f90:14\nmain\n/src/ring.f90:3\n"
+            self.assertEqual(self.found(said), "/src/ring.f90:14")
+        said = "0x1f\nexchange\n/src/a.c:3\nmain\n/src/a.c:9\n"
+        self.assertEqual(self.found(said), "/src/a.c:3, called from /src/a.c:9")
 
 
 if __name__ == "__main__":

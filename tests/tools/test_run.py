@@ -13,13 +13,12 @@ import unittest
 from pathlib import Path
 from unittest import mock
 
-from support import TOOLS, TOP, Folders, Stored, journal
+from support import BOTH, TOOLS, TOP, Folders, Stored, journal
 from companions import recorder, run, watching
 from companions.watching import Alarm
 from companions.runs import Answer, Judge
 from companions.script import Stopped
 
-BOTH = ("send 0 1 0 4 @7 / recv 0 1 0 @8 / finalize", "send 0 0 0 4 @7 / recv 0 0 0 @8 / finalize")
 CHECKER = {"MPIWAIT": str(TOP / "tests/tools/judge")}
 HERE = " on a-host"
 

@@ -1,11 +1,11 @@
-"""How long the scripts of tools/ are. Tries and tests are left out."""
+"""How long the scripts of tools/ are. Tries and tests are left out, but for their columns."""
 
 import ast
 import unittest
 
-from support import TOOLS
+from support import TOOLS, TOP
 
-MOST_LINES, MOST_IN_A_FUNCTION, MOST_COLUMNS = 1700, 40, 110
+MOST_LINES, MOST_IN_A_FUNCTION, MOST_COLUMNS, MOST_IN_BENCH = 1700, 40, 110, 120
 
 
 def is_script(path):
@@ -44,8 +44,21 @@ class Sizes(unittest.TestCase):
                     self.assertLessEqual(length, MOST_IN_A_FUNCTION, f"{path}: {name}")
 
     def test_columns(self):
-        lines = ((path, *one) for path in scripts() for one in enumerate(path.read_text("utf-8").split("\n"), 1))
-        self.assertEqual([f"{path}:{at}" for path, at, line in lines if len(line) > MOST_COLUMNS], [])
+        for folder, most in ((TOOLS, MOST_COLUMNS), (TOP / "bench", MOST_IN_BENCH)):
+            texts = ((path, path.read_text("utf-8").split("\n")) for path in scripts(folder))
+            lines = ((path, *one) for path, text in texts for one in enumerate(text, 1))
+            self.assertEqual([f"{path}:{at}" for path, at, line in lines if len(line) > most], [])
+
+    def test_one_module_reads_the_lines_of_journals(self):
+        for path in (TOOLS / "companions").glob("*.py"):
+            if path.name != "journals.py":
+                self.assertNotIn(".data", path.read_text("utf-8"), path)
+
+    def test_commands_have_no_code_of_their_own(self):
+        """All of it is in one package."""
+        commands = {path.name: path.read_text("utf-8") for path in scripts() if path.parent == TOOLS}
+        self.assertEqual(sorted(commands), ["limits", "run", "try"])
+        self.assertLessEqual({commands[name].count("\n") for name in ("limits", "run")}, {4})
 
 
 if __name__ == "__main__":

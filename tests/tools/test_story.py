@@ -2,12 +2,12 @@
 
 import json
 import unittest
+from unittest import mock
 
-from support import Folders, Stored
+from support import BOTH, MADE, MASKED, TESTED, Folders, Stored
 from companions import script
 from companions.story import MEANINGS, UNTIL_TESTS, Story
 
-BOTH = ("send 0 1 0 4 @7 / recv 0 1 0 @8 / finalize", "send 0 0 0 4 @7 / recv 0 0 0 @8 / finalize")
 FREE = ("send 0 1 0 4 @1 / finalize", "recv 0 0 0 @2 / finalize")
 TEXT = """\
 verdict hang: 2 of 2 ranks wait
@@ -28,9 +28,13 @@ WHERE = "Where the ranks were that didn't come to MPI_Finalize"
 class Statuses(Folders):
     """The status of a run: free 0, hang 1, refused 2, unfinished 5, not judged 6, calls that differ 7, failed 8."""
 
-    def left(self, text):
-        (self.folder / "journal").mkdir(exist_ok=True)
+    def left(self, ranks, text):
+        """The status and the title of a run of which something wasn't recorded."""
+        self.again()
+        self.run_of(*ranks)
         self.write("journal/left0", text)
+        found = self.judged(*ranks)
+        return found.status, found.title
 
     def test_of_each_kind(self):
         for status, ranks in (
@@ -51,7 +55,7 @@ class Statuses(Folders):
 
     def test_questions_that_fail(self):
         title = "Unanswered questions"
-        found = self.judged(*CutOff.MASKED, faults=["--tests=pass"])
+        found = self.judged(*MASKED, faults=["--tests=pass"])
         self.assertEqual((found.status, dict(found.sections).get(title)), (1, None))
         self.again()
         cut = [f"isend 1 0 {1 - rank} 0 4 @4 / test 1 @5 / recv 0 {1 - rank} 0 @6" for rank in (0, 1)]
@@ -66,34 +70,40 @@ class Statuses(Folders):
         self.assertEqual((found.status, found.title), (4, "out of memory"))
 
     def test_one_question_by_unproved_code(self):
-        for ranks, asked in ((BOTH, "strict"), (CutOff.MASKED, "went")):
+        for ranks, asked in ((BOTH, "strict"), (MASKED, "went")):
             with self.subTest(asked):
                 self.again()
                 self.run_of(*ranks)
                 found = Story(self.folder / "journal", Stored(), is_short=True)
                 self.assertEqual((found.status, found.verdicts()), (1, {asked: "hang"}))
 
-    def test_doubts_of_a_free_run(self):
-        self.run_of(*FREE)
-        self.write("journal/left0", "P 000000000003 calls of another thread\n")
-        found = self.judged(*FREE)
-        title = "not judged: recorded calls may match 3 calls that weren't recorded (without these: free: every rank "
-        self.assertEqual((found.status, found.title), (6, title + "comes to its MPI_Finalize)"))
-        self.assertEqual(dict(found.sections)[MEANINGS["P"]], ["3 calls of another thread (rank 0)"])
-
-    def test_doubts_of_a_hang(self):
-        self.run_of(*BOTH)
-        self.write("journal/left1", "P 000000000001 calls of another thread\n")
-        found = self.judged(*BOTH)
-        title = "not judged: recorded calls may match 1 call that wasn't recorded (without these: hang: 2 of 2 ranks wait)"
-        self.assertEqual((found.status, found.title), (6, title))
+    def test_doubts(self):
+        title = "not judged: recorded calls may match {} recorded (without these: {})"
+        free = title.format("3 calls that weren't", "free: every rank comes to its MPI_Finalize")
+        self.assertEqual(self.left(FREE, "P 000000000003 calls of another thread\n"), (6, free))
+        self.assertEqual(self.sections(*FREE)[MEANINGS["P"]], ["3 calls of another thread (rank 0)"])
+        hang = title.format("1 call that wasn't", "hang: 2 of 2 ranks wait")
+        self.assertEqual(self.left(BOTH, "P 000000000001 calls of another thread\n"), (6, hang))
 
     def test_waits_that_are_not_recorded(self):
-        self.run_of(*FREE)
-        self.write("journal/left0", "W 000000000012 MPI_Put\nN 000000000009 MPI_Test\n")
-        found = self.judged(*FREE)
-        title = "verdict free: every rank comes to its MPI_Finalize, as far as recorded: nothing is said of the waits of "
-        self.assertEqual((found.status, found.title), (0, title + "12 other calls"))
+        title = "verdict free: every rank comes to its MPI_Finalize, as far as recorded: "
+        left = "W 000000000012 MPI_Put\nN 000000000009 MPI_Test\n"
+        self.assertEqual(self.left(FREE, left), (0, title + "nothing is said of the waits of 12 other calls"))
+        self.assertEqual(self.left(BOTH, left), (1, "verdict hang: 2 of 2 ranks wait"))
+
+    def test_what_is_asked(self):
+        """Nothing but `judge --json', by the journals alone, as few times as may be."""
+        for ranks, state, asked in (
+            (FREE, "i", [set()]), (BOTH, "i", [set(), {"--eager=2147483647"}]),
+            (TESTED, "i", [set(), {"--tests=pass"}, {"--eager=2147483647"}]),
+            (MASKED, "i", [{"--calls=went"}, set(), {"--eager=2147483647"}]),
+        ):  # fmt: skip
+            with self.subTest(asked), mock.patch.object(Stored, "run", autospec=True, side_effect=Stored.run) as run:
+                self.again()
+                self.judged(*ranks, state=state)
+                commands = [call.args[1] for call in run.call_args_list]
+                self.assertEqual([set(words[3:-1]) for words in commands], asked)
+                self.assertTrue(all([words[1:3], words[-1]] == [["judge", "--json"], "."] for words in commands))
 
     def test_several_runs(self):
         from companions.script import worst
@@ -165,10 +175,9 @@ class Causes(Folders):
         self.assertIn("No buffer would cure this: it hangs too if all messages are buffered.", said[0])
 
     def test_communicators(self):
-        made = "comm_dup 0 @3 / =comm 2 0 1 / comm_dup 0 @4 / =comm 3 0 1"
         ranks = (
-            f"{made} / barrier 2 @5 / barrier 3 @6 / finalize",
-            f"{made} / barrier 3 @7 / barrier 2 @8 / finalize",
+            f"{MADE} / barrier 2 @5 / barrier 3 @6 / finalize",
+            f"{MADE} / barrier 3 @7 / barrier 2 @8 / finalize",
         )
         said = "\n".join(self.cause(*ranks))
         self.assertIn("rank 0 waits in MPI_Barrier at /a.py:5 on the communicator of /a.py:3, until rank 1 comes "
@@ -179,7 +188,7 @@ class Causes(Folders):
         self.assertIn("on `left\\tone', until", "\n".join(self.sections(*ranks)["The cause"]))
 
     def test_communicators_of_one_line(self):
-        made = "comm_dup 0 @3 / =comm 2 0 1 / comm_dup 0 @3 / =comm 3 0 1"
+        made = MADE.replace("@4", "@3")
         said = self.cause(
             f"{made} / barrier 2 @5 / barrier 3 @6 / finalize",
             f"{made} / barrier 3 @7 / barrier 2 @8 / finalize",
@@ -228,8 +237,7 @@ class NearMisses(Folders):
         self.assertIn("rank 1 receives from it in MPI_Recv at /a.py:8, but with tag 5 and not 4", said)
 
     def test_communicators_with_the_same_members(self):
-        made = "comm_dup 0 @3 / =comm 2 0 1 / comm_dup 0 @4 / =comm 3 0 1"
-        said = self.miss(f"{made} / recv 2 1 5 @7 / finalize", f"{made} / ssend 3 0 5 @8 / finalize")
+        said = self.miss(f"{MADE} / recv 2 1 5 @7 / finalize", f"{MADE} / ssend 3 0 5 @8 / finalize")
         self.assertIn("rank 1 sends to it in MPI_Ssend at /a.py:8, but on the communicator of /a.py:4 and not on "
                       "the communicator of /a.py:3", said)  # fmt: skip
 
@@ -241,12 +249,8 @@ class NearMisses(Folders):
 
 
 class CutOff(Folders):
-    MASKED = [
-        f"send 0 {1 - rank} 0 4 @4 / recv 0 {1 - rank} 0 @5 / recv 0 {1 - rank} 9 @7" for rank in (0, 1)
-    ]
-
     def test_the_hang_that_was_comes_first(self):
-        found = self.judged(*self.MASKED)
+        found = self.judged(*MASKED)
         sections = dict(found.sections)
         self.assertEqual((found.status, list(sections)[:2]), (1, ["It hung here", "It may hang here too"]))
         self.assertIn(
@@ -255,7 +259,7 @@ class CutOff(Folders):
         self.assertIn("rank 0 waits in MPI_Send at /a.py:4", sections["It may hang here too"][1])
 
     def test_nothing_held_it_but_it_may_hang(self):
-        found = self.judged(*self.MASKED, state="io")
+        found = self.judged(*MASKED, state="io")
         self.assertEqual(found.status, 1)
         self.assertEqual(
             found.title,
@@ -336,6 +340,33 @@ class CutOff(Folders):
             ],
         )
 
+    def test_calls_at_which_the_judgement_ends(self):
+        said = self.sections(
+            "recv 0 any 4 @2 / finalize", "irecv 1 0 0 5 @3 / cancel 1 @4 / finalize",
+            "irecv 1 0 null 0 @6 / irecv 2 0 null 0 @7 / waitsome 1 2 @8 / finalize",
+        )  # fmt: skip
+        self.assertEqual(
+            said["Calls at which the judgement of a rank ends"],
+            [
+                "rank 0: MPI_Recv at /a.py:2 never came back, and what it would have taken isn't known",
+                "rank 1: MPI_Cancel at /a.py:4 was never answered: whether it cancelled anything isn't known",
+                "rank 2: MPI_Waitsome at /a.py:8 never came back, and what it would have taken isn't known",
+            ],
+        )
+
+    def test_a_free_run_that_is_cut_off_anywhere(self):
+        """A receive with a wildcard may be open then, and the others wait for one whose message it takes."""
+        master = "irecv 1 0 any 3 @1 / recv 0 2 4 @2 / wait 1 @3 / =done 1 1 3 / finalize"
+        ranks = [master, "ssend 0 0 3 @6 / ssend 0 2 5 @7 / finalize", "recv 0 1 5 @8 / ssend 0 0 4 @9 / finalize"]
+        self.assertEqual(self.judged(*ranks).status, 0)
+        for rank, calls in enumerate(ranks):
+            lines = calls.split(" / ")
+            for left in range(len(lines)):
+                cut = [" / ".join(lines[:left]) if one == rank else ranks[one] for one in range(3)]
+                with self.subTest(cut):
+                    self.again()
+                    self.assertEqual(self.judged(*cut).status, 5)
+
     def test_threads(self):
         after = dict.fromkeys((0, 1), " multiple")
         said = self.sections("recv 0 1 0 @7", "recv 0 0 0 @7", after=after)["What this assumes"]
@@ -343,13 +374,8 @@ class CutOff(Folders):
 
 
 class Tested(Folders):
-    # A test that completed a send, before the receive that lets the other rank go on.
-    RANKS = [
-        f"isend 1 0 {1 - rank} 0 4 @4 / test 1 @5 / recv 0 {1 - rank} 0 @6 / finalize" for rank in (0, 1)
-    ]
-
     def test_a_hang_by_tests_alone(self):
-        found = self.judged(*self.RANKS)
+        found = self.judged(*TESTED)
         sections = dict(found.sections)
         self.assertEqual((found.status, found.verdicts()["strict"]), (0, "hang"))
         self.assertEqual(
@@ -361,7 +387,7 @@ class Tested(Folders):
     def test_a_hang_by_tests_and_more(self):
         ranks = [
             calls.replace("finalize", f"recv 0 {1 - rank} 7 @9 / finalize")
-            for rank, calls in enumerate(self.RANKS)
+            for rank, calls in enumerate(TESTED)
         ]
         found = self.judged(*ranks)
         self.assertEqual((found.status, found.title), (1, "verdict hang: 2 of 2 ranks wait"))

@@ -91,8 +91,7 @@ def cause_lines(view):
         named.update(first, *others)
         if others:
             lines.append("and so " + listed(shortened(map(ranks_named, others), MOST_NAMES)))
-    missing = [cause["missing"][0] for cause in view.report["causes"] if "missing" in cause]
-    keys = {place_key(view.stuck[rank]) for rank in missing}
+    keys = {place_key(view.stuck[one["missing"][0]]) for one in view.report["causes"] if "missing" in one}
     # A rank that waits in the same line for a missing call belongs to the cause, also if another is named.
     alike = [one for one in view.stuck.values() if one.rank in view.held - named and place_key(one) in keys]
     for group in grouped([one for one in alike if any(not call for _, call in one.needs)], alike_key):
@@ -113,19 +112,20 @@ def cause_sections(view, cause="The cause", is_alone=True):
         yield "Who else waits" if named else "Who waits", shortened(lines, MOST_LINES)
 
 
-def pair_words(view, kind, comm, member, first, other):
+def pair_words(view, key, member):
     """A finding about two calls that meet: different calls, or one with different roots."""
     def candidates(rank, wanted):
         for call in view.calls[rank].values():
             words = [call.root] if kind == "root" else MADE.get(call.word, (call.word,))
-            if wanted in words and call.comm is not None and (call.comm == 0) == (comm == 0):
+            if wanted in words and call.comm is not None and (call.comm == 0) == is_world:
                 yield call, view.run.made(rank, call.comm)[0]
 
+    kind, is_world, first, other = key
     what, end = ("different calls", "") if kind == "kind" else ("different roots", " with root {}")
     for one, members in (one for rank in view.run.ranks for one in candidates(rank, first)):
         is_whole = members[:1] == (one.rank,) and member < len(members)
         met = candidates(members[member], other) if is_whole else ()
-        for two in [two for two, others in met if others == members][:1]:
+        for two in (two for two, others in met if others == members):
             both = [f"rank {call.rank}'s {call.placed()}{end.format(call.root)}" for call in (one, two)]
             return f"{what} meet on {view.run.label(one.rank, one.comm)}: {both[0]} and {both[1]}"
     return f"{what} meet: {first} and {other}"
@@ -137,11 +137,11 @@ def finding_lines(view):
     for text in view.report["findings"]:
         kind, *fields = text.split(" ")
         call = view.call(int(fields[0]), int(fields[1])) if kind in FINDINGS else None
-        key = (kind, call.word, call.where) if call else (kind, fields[0], *fields[3:])
+        key = (kind, call.word, call.where) if call else (kind, fields[0] == "0", *fields[3:])
         counts[key] = counts.get(key, 0) + 1
         if key not in words and call:
             words[key] = FINDINGS[kind].format(call, call.text(), call.placed())
         elif key not in words:
-            words[key] = pair_words(view, kind, int(fields[0]), int(fields[2]), *fields[3:])
+            words[key] = pair_words(view, key, int(fields[2]))
     alike = {key: f" ({count - 1:,} more alike)" if count > 1 else "" for key, count in counts.items()}
     return [words[key] + alike[key] for key in words]

@@ -29,6 +29,9 @@ WAITS = {"wait", "test", "waitany", "waitsome", "mrecv"}
 BEFORE = dict.fromkeys(COLLECTIVES | MAKERS | SENDS | RECEIVES, 0) | {"isendrecv": 2}
 BEFORE |= dict.fromkeys(STARTED_COLLECTIVES | STARTED_SENDS, 1)
 BEFORE |= dict.fromkeys(["irecv", "mprobe", "improbe", "comm_idup"], 1)
+# The bytes of a standard send are its last field; three come before them, after those that differ.
+STANDARD_SEND = rb"\n(?:r?send|ir?send \d+|sendrecv \d+ \S+|isendrecv \d+ \d+ \d+ \S+)"
+SIZE = re.compile(STANDARD_SEND + rb"(?: \S+){3} (\d+)(?= @|\n)")
 NAMES = {"exit": "the end of the process", "comm_make": "a call that makes communicators", "full": "a call"}
 
 
@@ -87,6 +90,10 @@ class Journal:
             if first <= number < first + lines:
                 found[number] = Call(self.run, self.rank, texts[number - first].decode("latin-1"), number)
         return found
+
+    def sizes(self):
+        """The bytes of its standard sends."""
+        return {int(found[1]) for found in SIZE.finditer(self.data, 0, self.end)}
 
     def tail(self):
         """The last calls, as far as they are read at once."""

@@ -8,8 +8,8 @@ from contextlib import suppress
 from functools import lru_cache
 from pathlib import Path
 
-# What calls `main', of which nobody wants to know.
-BEGINNING = re.compile(r"_*(libc_start_\w+|start)|generic_start_main")
+# What calls `main', or a program of Fortran: a function and a path, of which nobody wants to know.
+BEGINNING = re.compile(r"(_*(libc_start_\w+|start)|generic_start_main) .*|main .*[.][fF]\d*", re.DOTALL)
 
 
 class Frame(namedtuple("Frame", "path line function other", defaults=("", 0, "", ""))):
@@ -48,7 +48,8 @@ class Places:
         """The frames of a site, the innermost first, with those that were compiled into others."""
         self.look_up([(rank, site)])
         frames = [one for frame in self.raw(rank, site) for one in self._found[frame]]
-        return [one for one in frames if not BEGINNING.fullmatch(one.function)] or frames[:1] or [Frame()]
+        others = [one for one in frames[1:] if not BEGINNING.fullmatch(f"{one.function} {one.path}")]
+        return frames[:1] + others or [Frame()]
 
     def _where(self, rank, site):
         """One line for a site."""

@@ -3,7 +3,6 @@
 import bisect
 import fcntl
 import os
-import re
 import shlex
 import shutil
 import time
@@ -27,9 +26,6 @@ LIMITS = """Finds the least N of --eager N at which a recorded run can't hang. F
 
 It judges by 0 and by sizes of standard sends, since between two of these no verdict changes: by halves, or
 all if ranks were cut off. The status is 0 if some limit is free, else 1; 2, 3 and 4 are as for tools/run."""
-# The bytes of a standard send are its last field; three come before them, after those that differ.
-BEFORE = rb"\n(?:r?send|ir?send \d+|sendrecv \d+ \S+|isendrecv \d+ \d+ \d+ \S+)"
-SIZE = re.compile(BEFORE + rb"(?: \S+){3} (\d+)(?= @|\n)")
 
 
 def words_of(argv):
@@ -122,14 +118,9 @@ def main(argv):
     return report([Story(one, judge, **more) for one in runs], words.files)
 
 
-def sizes_in(run):
-    found = (one for journal in run.journals for one in SIZE.finditer(journal.data, 0, journal.end))
-    return sorted({0, *(int(one[1]) for one in found)})
-
-
 def try_limits(run):
     """Judges a run with some limits, and prints each verdict. Answers the limits that are free."""
-    sizes, judge, free = sizes_in(run), Judge(), []
+    sizes, judge, free = sorted({0}.union(*(one.sizes() for one in run.journals))), Judge(), []
 
     def is_free(limit):
         answer = judge.ask(run.folder, eager=limit)

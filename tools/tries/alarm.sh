@@ -17,37 +17,30 @@ expect_quiet() {
 
 # Ranks 0 and 1 wait for each other after 30 seconds of work, also while a third one goes on.
 try_alarm_of_a_hang() {
-    local library=$1 ranks=$2 name="$1: a hang of two ranks among $2 after 30 seconds" begun after
+    local library=$1 ranks=$2 begun after wrong=''
     prepare "$library" quiet.c "$ranks"
     run_with --stop "${command[@]}" hang 30
     begun=$(sed -n 's/^hang at \([0-9]*\)$/\1/p' "$work/errors")
     after=$(($(date +%s) - ${begun:-0}))
-    if [[ $status == 1 && $after -le 15 ]] && wait_until is_left_over &&
-        grep -q 'ranks 0 and 1 wait for ever.*; the run is ended' "$work/errors"; then
-        echo "$name: reported and ended $after seconds after that"
-    else
-        cat -- "$work/said" "$work/errors" >&2
-        fails "$name: status $status, $after seconds after that"
-    fi
+    ((after <= 15)) || wrong="$after seconds later"
+    wait_until is_left_over || wrong="left over: $(left_over)"
+    expect_line "$library: a hang of two ranks among $ranks after 30 seconds" 1 \
+        'ranks 0 and 1 wait for ever.*; the run is ended' "reported and ended $after seconds later" "$wrong"
 }
 
 # Without --stop it is reported once, and the run goes on.
 try_alarm_without_stop() {
-    local library=$1 name="$1: a hang without --stop" reported
+    local library=$1 reported wrong=''
     prepare "$library" quiet.c 3
     run_with --quiet 2 --for 20 "${command[@]}" hang 1
     reported=$(grep -c 'wait for ever.*; the run goes on; --stop would end it' "$work/errors" || :)
-    if [[ $status == 1 && $reported == 1 ]] && grep -q 'was ended after 20 seconds' "$work/errors"; then
-        echo "$name: reported once"
-    else
-        cat -- "$work/said" "$work/errors" >&2
-        fails "$name: status $status"
-    fi
+    [[ $reported == 1 ]] || wrong="reported $reported times"
+    expect_line "$library: a hang without --stop" 1 'was ended after 20 seconds' 'reported once' "$wrong"
 }
 
 # A rank whose machine has another name, as far as it is concerned.
 try_alarm_of_other_machines() {
-    local library=$1 name="$1: a rank on another machine"
+    local library=$1 name="$1: a rank on another machine" wrong=''
     if ! unshare --uts true 2>/dev/null; then
         echo "$name: passed over: no process may have another name for this machine"
         return
@@ -56,13 +49,9 @@ try_alarm_of_other_machines() {
     # shellcheck disable=SC2016
     run_with --quiet 2 --stop --for 15 "${command[@]}" hang 1 : -n 1 \
         unshare --uts sh -c 'hostname elsewhere && exec "$@"' sh "$work/program" hang 1
-    if [[ $status == 1 ]] && ! grep -q 'waits\? for ever' "$work/errors" &&
-        grep -q 'nothing is reported before .*: some ranks are on other machines' "$work/errors"; then
-        echo "$name: nothing is reported while it runs, and that is reported"
-    else
-        cat -- "$work/said" "$work/errors" >&2
-        fails "$name: status $status"
-    fi
+    ! grep -q 'waits\? for ever' "$work/errors" || wrong='reported while it ran'
+    expect_line "$name" 1 'nothing is reported before .*: some ranks are on other machines' \
+        'nothing is reported while it runs, and that is reported' "$wrong"
 }
 
 try_alarm() {

@@ -55,6 +55,17 @@ compare() {
     compare_with "$name" "$report"
 }
 
+# What came of a try: a status, and a line of standard error. What else is wrong is named.
+expect_line() {
+    local name=$1 wanted=$2 line=$3 right=$4 wrong=${5-}
+    if [[ $status == "$wanted" && -z $wrong ]] && grep -q -- "$line" "$work/errors"; then
+        echo "$name: $right"
+    else
+        cat -- "$work/said" "$work/errors" >&2
+        fails "$name: status $status${wrong:+, $wrong}"
+    fi
+}
+
 # A program whose library can't do what it is about.
 is_possible() {
     case $2 in
@@ -105,18 +116,13 @@ try_journals() {
 # What holds a folder as a run does keeps another run out.
 try_hold() {
     has flock || { echo 'a folder in use: passed over: there is no flock'; return; }
-    local held status=0
+    local held
     mkdir -p -- "$work/run/journal"
     exec {held}<"$work/run"
     flock "$held"
-    "$here/run" --folder "$work/run" --again >/dev/null 2>"$work/errors" || status=$?
+    run_with --again
     exec {held}<&-
-    if [[ $status == 3 ]] && grep -q 'in use' "$work/errors"; then
-        echo 'a folder in use: refused'
-    else
-        cat -- "$work/errors" >&2
-        fails "a folder in use: status $status"
-    fi
+    expect_line 'a folder in use' 3 'in use' refused
 }
 
 try_texts() {

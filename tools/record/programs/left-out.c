@@ -35,10 +35,15 @@ static void neighbours(void) {
 static void intercommunicator(void) {
     MPI_Comm half, inter, merged, dup;
     MPI_Request request;
+    MPI_Message message;
     MPI_Comm_split(MPI_COMM_WORLD, rank % 2, rank, &half);
     MPI_Intercomm_create(half, 0, MPI_COMM_WORLD, 1 - rank % 2, 5, &inter);
     MPI_Barrier(inter);
     MPI_Sendrecv(&rank, 1, MPI_INT, rank / 2, 0, got, 1, MPI_INT, rank / 2, 0, inter, MPI_STATUS_IGNORE);
+    MPI_Isend(&rank, 1, MPI_INT, rank / 2, 1, inter, &request);
+    MPI_Mprobe(rank / 2, 1, inter, &message, MPI_STATUS_IGNORE);
+    MPI_Mrecv(got, 1, MPI_INT, &message, MPI_STATUS_IGNORE);
+    MPI_Wait(&request, MPI_STATUS_IGNORE);
     MPI_Intercomm_merge(inter, rank % 2, &merged);
     MPI_Barrier(merged);
     MPI_Comm_free(&merged);
