@@ -7,3 +7,4 @@ pub mod EndLemmas
 pub mod LintLemmas
 pub mod HeadToHeadLemmas
 pub mod JournalLemmas
+pub mod FolderLemmas

@@ -14,5 +14,6 @@ pub mod Journals
 pub mod Argv
 pub mod Lints
 pub mod MemoryFiles
+pub mod JournalFolders
 pub mod HeadToHead
 pub mod inner

@@ -1,9 +1,10 @@
 //! The journals of a run in a folder, and the files of their recording.
 
-ghost use Rattle.std.specs.Prelude.{◌≡◌};
+ghost use Rattle.std.specs.Prelude.{◌≡◌, string_bytes, None, IfOk};
+ghost use Rattle.cli.specs.JournalFolders.{journal_path, known_file};
 
 use crate::opener::{Maker, Opener};
-use judging::close::Folder;
+use judging::close::{FileName, Folder};
 use judging::read::Journals;
 use std::alloc::{AllocError, Global};
 
@@ -26,20 +27,27 @@ impl<'p, 'a, P> JournalFolder<'p, 'a, P> {
         }
     }
 
-    fn path_of(&self, rank: u16) -> Result<String, AllocError> {
-        let path = self.path;
-        format!(in self.alloc; "{path}/journal{rank}")
+    fn path_of(&self, rank: u16) -> Result<String, AllocError>
+        ensures { IfOk result (λ path. string_bytes path ≡ journal_path self.now.path.now rank) }
+    {
+        let folder = self.path;
+        let path = format!(in self.alloc; "{folder}/journal{rank}")?;
+        Ok(path)
     }
 }
 
 impl<P: Opener> Journals for JournalFolder<'_, '_, P> {
     type In = P::In;
 
+    ghost known = { λ folder rank. known_file (P.told folder.opener.now) (P.named folder.opener.now) (journal_path folder.path.now rank) };
+
+    #[tactic(auto, using(crate::proofs::FolderLemmas::found_in))]
     fn is_there(&self, rank: u16) -> Result<bool, AllocError> {
         let path = self.path_of(rank)?;
         Ok(self.opener.is_named(path.as_str()))
     }
 
+    #[tactic(auto, using(crate::proofs::FolderLemmas::opened_in, crate::proofs::FolderLemmas::unopened_in))]
     fn open(&self, rank: u16) -> Result<Option<P::In>, AllocError> {
         let path = self.path_of(rank)?;
         Ok(self.opener.open_input(path.as_str()))
@@ -62,22 +70,33 @@ impl<'p, 'a, P> RecordingFolder<'p, 'a, P> {
     }
 }
 
+impl<P> RecordingFolder<'_, '_, P> {
+    fn path_of(&self, name: FileName) -> Result<String, AllocError> {
+        let folder = self.path;
+        let path = match name {
+            FileName::Head => format!(in self.alloc; "{folder}/head")?,
+            FileName::Trace(rank) => format!(in self.alloc; "{folder}/r{rank}")?,
+        };
+        Ok(path)
+    }
+}
+
+/// What files that are made hold isn't told.
 impl<P: Maker> Folder for RecordingFolder<'_, '_, P> {
     type Out = P::Out;
 
-    fn make(&self) -> bool {
+    ghost empty = { λ _. None };
+
+    ghost text = { λ _ _. None };
+
+    fn make(&mut self) -> bool {
         self.maker.make_folder(self.path)
     }
 
-    fn head(&self) -> Result<Option<P::Out>, AllocError> {
-        let path = self.path;
-        let path = format!(in self.alloc; "{path}/head")?;
+    fn create(&mut self, name: FileName) -> Result<Option<P::Out>, AllocError> {
+        let path = self.path_of(name)?;
         Ok(self.maker.create_output(path.as_str()))
     }
 
-    fn trace(&self, rank: u16) -> Result<Option<P::Out>, AllocError> {
-        let path = self.path;
-        let path = format!(in self.alloc; "{path}/r{rank}")?;
-        Ok(self.maker.create_output(path.as_str()))
-    }
+    fn take_back(&mut self, _name: FileName, _out: P::Out) {}
 }

@@ -1,6 +1,6 @@
 //! Opening the files that the command line names.
 
-ghost use Rattle.std.specs.Prelude.{◌≡◌, ℕ, false, ⊤, Option, None, List, IfNone, IfSome};
+ghost use Rattle.std.specs.Prelude.{◌≡◌, ℕ, Bool, true, false, ⊤, Option, None, List, IfNone, IfSome};
 
 use mpicall::counted::Counted;
 use mpicall::device::{Input, Output};
@@ -9,12 +9,14 @@ use std::fs::OpenOptions;
 use std::rt::Files;
 
 /// What opens the inputs that paths name: `told` is the text of the file with a path, where the opener
-/// knows it, and `never_waits` what is so of a path of whose file `waits` says that no read waits for another
-/// program.
+/// knows it, `named` whether there is such a file, where that is known, and `never_waits` what is so of a path
+/// of whose file `waits` says that no read waits for another program.
 pub trait Opener {
     type In: Input + Drop + Send;
 
     ghost told: { Self → List ℕ → Option (List ℕ) };
+
+    ghost named: { Self → List ℕ → Option Bool };
 
     /// Without a word of its own an opener says nothing.
     ghost never_waits: { Self → List ℕ → Type 0 } = { λ opener path. ⊤ };
@@ -40,10 +42,10 @@ pub trait Opener {
         false
     }
 
-    /// Whether something stands under a path, a link that leads nowhere too.
-    fn is_named(&self, _path: &str) -> bool {
-        false
-    }
+    /// Whether a path names something, a link that leads nowhere too. A file whose text is known has its path.
+    fn is_named(&self, path: &str) -> bool
+        ensures told { IfSome (told self.now path.now) (λ text. result ≡ true) }
+        ensures named { IfSome (named self.now path.now) (λ is. result ≡ is) };
 }
 
 /// What makes folders, and files in them.
@@ -57,7 +59,7 @@ pub trait Maker {
     fn create_output(&self, path: &str) -> Option<Self::Out>;
 }
 
-/// The files of the machine. What they hold isn't known.
+/// The files of the machine. What they hold isn't known, nor which there are.
 #[derive(Drop)]
 pub struct Disk<'a, R>(pub &'a R);
 
@@ -68,6 +70,8 @@ where
     type In = Counted<R::File>;
 
     ghost told = { λ _ _. None };
+
+    ghost named = { λ _ _. None };
 
     fn open_input(&self, path: &str) -> Option<Counted<R::File>> {
         match fs::open(self.0, path) {

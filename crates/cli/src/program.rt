@@ -161,17 +161,18 @@ fn fault_of_close<'a>(folder: &'a str, path: &'a str, fault: CloseFault) -> Faul
 /// Writes the recording of the journals in a folder into another one.
 fn answer_close<'a, P: Opener + Maker, O: Output>(
     journals: &JournalFolder<'_, 'a, P>,
-    made: &RecordingFolder<'_, 'a, P>,
+    made: &mut RecordingFolder<'_, 'a, P>,
     choice: Choice,
     wait: &impl Wait,
     out: &mut O,
 ) -> Result<Status, Complaint<'a>>
-    ensures { IsAnswered O.written O.failures EndsInFiles (IsFaultOfClose journals.now.path.now made.now.path.now) out.old out.new result }
+    ensures { IsAnswered O.written O.failures EndsInFiles (IsFaultOfClose journals.now.path.now made.old.path.now) out.old out.new result }
 {
+    let path = made.path;
     match close(journals.alloc, journals, choice, made, wait) {
         Ok(()) => Ok(Status::Free),
         Err(fault) => {
-            let fault = fault_of_close(journals.path, made.path, fault);
+            let fault = fault_of_close(journals.path, path, fault);
             refuse(journals.alloc, fault, out)
         }
     }
@@ -204,8 +205,8 @@ fn answer<'a, P: Opener + Maker, O: Output, R: Threads + Wait + Sync>(
             choice,
         } => {
             let journals = JournalFolder::new(alloc, opener, folder);
-            let made = RecordingFolder::new(alloc, opener, path);
-            answer_close(&journals, &made, choice, rt, out)
+            let mut made = RecordingFolder::new(alloc, opener, path);
+            answer_close(&journals, &mut made, choice, rt, out)
         }
         CommandLine::Said {
             text,

@@ -119,6 +119,8 @@ impl<'a> Opener for RowFiles<'a> {
 
     ghost told = { λ _ _. None };
 
+    ghost named = { λ _ _. None };
+
     fn open_input(&self, path: &str) -> Option<FailsAt<Counted<Pieces<'a>>>> {
         let left = self.text(path)?;
         let devices = &self.row.devices;

@@ -10,7 +10,7 @@ use Rattle.std.proofs.lemmas.Option.{slice_get_within}
 use Rattle.mpicall.specs.declared.limits.TheConstants.{GREATEST_COMM}
 use Rattle.closing.specs.Entries.{Placed, Run, all_entries, entries_at, lines_at, ranks_of}
 use Rattle.closing.specs.Entry.{brings}
-use Rattle.closing.specs.inner.FitComms.{HasFitComms}
+use Rattle.closing.specs.FitComms.{HasFitComms}
 use Rattle.closing.specs.Keys.{Key, World, Made, each_once, has_member, is_key_among, same_key}
 use Rattle.closing.specs.Made.{inferred_key, is_wave, keys_at, keys_of_wave, made_with, may_give, others_key, reported_group, reported_key, wave_at}
 use Rattle.closing.specs.Numbers.{is_named, number_of, numbered_keys}

@@ -46,13 +46,13 @@ pub count_push : {A : Type 0} (p : A → Bool) (x : A) (xs : List A) → count_b
 count_push {A} p x xs = sum_by-append (λ (y : A). cond (p y) 1 0) xs (x ∷ []) ∙ ap (λ (n : ℕ). count_by p xs + n) (omega arith)
 
 module _ {A : Type 0} where
-  zip_grows : (R S : ℕ → A → Type 0) → ((n : ℕ) (x : A) → R n x → S n x) → (places : List ℕ) (things : List A) → AllZip R places things → AllZip S places things
+  pub zip_grows : (R S : ℕ → A → Type 0) → ((n : ℕ) (x : A) → R n x → S n x) → (places : List ℕ) (things : List A) → AllZip R places things → AllZip S places things
   zip_grows R S grows [] [] all = tt
   zip_grows R S grows [] (x ∷ things) all = all
   zip_grows R S grows (n ∷ places) [] all = all
   zip_grows R S grows (n ∷ places) (x ∷ things) all = (grows n x all.0, zip_grows R S grows places things all.1)
 
-  zip_push : (R : ℕ → A → Type 0) (places : List ℕ) (things : List A) (n : ℕ) (x : A) → AllZip R places things → R n x → AllZip R (places ++ n ∷ []) (things ++ x ∷ [])
+  pub zip_push : (R : ℕ → A → Type 0) (places : List ℕ) (things : List A) (n : ℕ) (x : A) → AllZip R places things → R n x → AllZip R (places ++ n ∷ []) (things ++ x ∷ [])
   zip_push R [] [] n x all one = (one, tt)
   zip_push R [] (y ∷ things) n x all one = absurd all
   zip_push R (m ∷ places) [] n x all one = absurd all

@@ -7,7 +7,7 @@ use Rattle.std.proofs.lemmas.Bool.{false≢true}
 use Rattle.std.proofs.lemmas.List.{map-append}
 use Rattle.std.proofs.lemmas.Option.{slice_get_within}
 use Rattle.closing.specs.Entries.{Run, entries_at, ranks_of}
-use Rattle.closing.specs.inner.FitComms.{HasFitComms, IsFitGroup}
+use Rattle.closing.specs.FitComms.{HasFitComms, IsFitGroup}
 use Rattle.closing.specs.Keys.{Key, World, group_of_key, same_key}
 use Rattle.closing.specs.Made.{inferred_key, keys_at}
 use Rattle.closing.specs.Numbers.{number_of, numbered_keys}

@@ -13,7 +13,8 @@ use Rattle.mpicall.specs.declared.limits.TheConstants.{GREATEST_REQUEST}
 use Rattle.mpicall.specs.Limits.{in_ranges}
 use Rattle.closing.specs.Steps.{Id, Own, Whole, ReceiveHalf, Written, Progress, plain, same_id, number_in, has_number, start, least_free}
 use Rattle.closing.specs.inner.Free.{Requests, AreNumbered, KeepsFree, backwards, kept_count, is_in_use}
-use Rattle.closing.specs.inner.Lists.{ComesTo, IsUnnamed, IsStartOf, IsStarted, IsApart, AreApart, Stands, IsCut, Puts, Cuts, Adds, KeepsRecords, TakesFree, calls_in, start_call, is_start_of_send, starts_send}
+use Rattle.closing.specs.inner.Lists.{ComesTo, IsUnnamed, IsStartOf, IsStarted, IsApart, AreApart, Stands, IsCut, Puts, Cuts, Adds, KeepsRecords, TakesFree, calls_in, start_call, is_start_of_send}
+use Rattle.closing.specs.Fit.{starts_send}
 use Rattle.closing.specs.declared.list.List.{List as ListCode}
 use Rattle.closing.specs.declared.list.Active.{Active}
 use Rattle.closing.specs.declared.list.Start.{Start}

@@ -19,7 +19,7 @@ use Rattle.closing.specs.Entries.{Placed, Run, entries_at, entries_from, entries
 use Rattle.closing.specs.Keys.{Key, Made, Apart, group_count, is_key_among, same_key}
 use Rattle.closing.specs.Made.{made_with, reported_key}
 use Rattle.closing.specs.RankComms.{RankComms, Wave, after_call, after_line, after_lines, after_report, comms_after, comms_first, duplicated_in, key_next, made_in, makes_comm, under, wave_next, with_key, with_made, with_some}
-use Rattle.closing.specs.inner.FitComms.{comm_is_numbered, comms_are_numbered}
+use Rattle.closing.specs.FitComms.{comm_is_numbered, comms_are_numbered}
 use Rattle.closing.proofs.NumberLists.{or_true}
 use Rattle.closing.proofs.SomeLemmas.{passes, some_either}
 

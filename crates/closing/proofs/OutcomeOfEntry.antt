@@ -15,7 +15,7 @@ use Rattle.closing.specs.RankComms.{RankComms}
 use Rattle.closing.specs.Reported.{Message, done_of, got_in, is_gone, is_settled, message_of, root_can_be}
 use Rattle.closing.specs.Steps.{Step, WaitsForLate}
 use Rattle.mpicall.specs.declared.call.Mode.TheVariants.{Standard}
-use Rattle.closing.specs.Endings.{first_of, why_at, number_at, sent_can_be, size_at}
+use Rattle.closing.specs.Endings.{breaks_off, first_of, why_at, number_at, sent_can_be, size_at}
 use Rattle.closing.specs.Entry.{wait_for_all, wait_for_any, Choice, steps_by, steps_of, unless_past, is_past, start_send, start_receive}
 use Rattle.closing.specs.Recording.{Outcome, GoesOn, Ends, is_end, steps_before, outcome_by, outcome_of}
 use Rattle.closing.specs.inner.Walks.{Spot, spot_of, ends, numbered, known_or_ends, receives_after, starts_at, chosen_or_ends, outcome_on}
@@ -265,3 +265,95 @@ module _ (run : Run) (choice : Choice) (rank : ℕ) (journal : Journal) (line : 
   of_entry Aborts h = cc
   of_entry Fills h = cc
   of_entry Stops h = cc
+
+  of_end : (it : Called) → is_end it ≡ true → has_report report.Failed entry ≡ false → outcome_of run choice (at it) ≡ Ends (WaitsForLate ∷ []) Finalize None
+  of_end Finalizes h e =
+      of_call Finalizes
+      ∙ ap (λ failed. outcome_with (before Finalizes) (Ends (WaitsForLate ∷ []) Finalize None) (first_of ((failed, Failed) ∷ (false, CannotBe) ∷ (false, NoNumber) ∷ rest_of false false))) e
+  of_end Exits h e =
+      of_call Exits
+      ∙ ap (λ failed. outcome_with (before Exits) (Ends (WaitsForLate ∷ []) Finalize None) (first_of ((failed, Failed) ∷ (false, CannotBe) ∷ (false, NoNumber) ∷ rest_of false false))) e
+  of_end (Sends mode it) h e = cc
+  of_end (StartsSend request mode it) h e = cc
+  of_end (Receives awaited) h e = cc
+  of_end (StartsReceive request awaited) h e = cc
+  of_end (Exchanges sent awaited) h e = cc
+  of_end (StartsExchange request received sent awaited) h e = cc
+  of_end (Probes awaited) h e = cc
+  of_end (ProbesMatching message awaited) h e = cc
+  of_end (ReceivesMatched message) h e = cc
+  of_end (StartsMatched request message) h e = cc
+  of_end (Waits requests) h e = cc
+  of_end (Tests requests) h e = cc
+  of_end (WaitsAny requests) h e = cc
+  of_end (WaitsSome requests) h e = cc
+  of_end (Cancels request) h e = cc
+  of_end (FreesRequest request) h e = cc
+  of_end (Collects collective comm root) h e = cc
+  of_end (StartsCollective request collective comm root) h e = cc
+  of_end (Duplicates comm) h e = cc
+  of_end (StartsDuplicate request comm) h e = cc
+  of_end (Splits comm colour key) h e = cc
+  of_end (Makes comm) h e = cc
+  of_end (MakesOfGroup group) h e = cc
+  of_end (FreesComm comm) h e = cc
+  of_end Nothing h e = cc
+  of_end Aborts h e = cc
+  of_end Fills h e = cc
+  of_end Stops h e = cc
+
+  of_break : (it : Called) (why : Why) → breaks_off it ≡ Some why → outcome_of run choice (at it) ≡ ends why
+  of_break Stops why e = of_call Stops ∙ ap (λ some. outcome_with (before Stops) (GoesOn (steps_of run choice (at Stops))) some) e
+  of_break Aborts why e = of_call Aborts ∙ ap (λ some. outcome_with (before Aborts) (GoesOn (steps_of run choice (at Aborts))) some) e
+  of_break Fills why e = of_call Fills ∙ ap (λ some. outcome_with (before Fills) (GoesOn (steps_of run choice (at Fills))) some) e
+  of_break Finalizes why e = cc
+  of_break Exits why e = cc
+  of_break (Sends mode it) why e = cc
+  of_break (StartsSend request mode it) why e = cc
+  of_break (Receives awaited) why e = cc
+  of_break (StartsReceive request awaited) why e = cc
+  of_break (Exchanges sent awaited) why e = cc
+  of_break (StartsExchange request received sent awaited) why e = cc
+  of_break (Probes awaited) why e = cc
+  of_break (ProbesMatching message awaited) why e = cc
+  of_break (ReceivesMatched message) why e = cc
+  of_break (StartsMatched request message) why e = cc
+  of_break (Waits requests) why e = cc
+  of_break (Tests requests) why e = cc
+  of_break (WaitsAny requests) why e = cc
+  of_break (WaitsSome requests) why e = cc
+  of_break (Cancels request) why e = cc
+  of_break (FreesRequest request) why e = cc
+  of_break (Collects collective comm root) why e = cc
+  of_break (StartsCollective request collective comm root) why e = cc
+  of_break (Duplicates comm) why e = cc
+  of_break (StartsDuplicate request comm) why e = cc
+  of_break (Splits comm colour key) why e = cc
+  of_break (Makes comm) why e = cc
+  of_break (MakesOfGroup group) why e = cc
+  of_break (FreesComm comm) why e = cc
+  of_break Nothing why e = cc
+
+-- ---- By the entry ----
+
+-- one that goes on past its call and didn't fail
+pub taken_is : (run : Run) (choice : Choice) (it : Placed) → goes_on_past it.called ≡ true → has_report report.Failed it.entry ≡ false
+    → outcome_of run choice it ≡ outcome_on choice (spot_of run choice it) it.called
+taken_is run choice it h e =
+    of_entry run choice it.rank it.journal it.line it.entry it.comms it.came_back it.called h
+    ∙ ap (λ failed. if failed then ends Failed else outcome_on choice (spot_of run choice it) it.called) e
+
+pub failed_is : (run : Run) (choice : Choice) (it : Placed) → goes_on_past it.called ≡ true → has_report report.Failed it.entry ≡ true
+    → outcome_of run choice it ≡ ends Failed
+failed_is run choice it h e =
+    of_entry run choice it.rank it.journal it.line it.entry it.comms it.came_back it.called h
+    ∙ ap (λ failed. if failed then ends Failed else outcome_on choice (spot_of run choice it) it.called) e
+
+-- the last call of the rank
+pub ended_is : (run : Run) (choice : Choice) (it : Placed) → is_end it.called ≡ true → has_report report.Failed it.entry ≡ false
+    → outcome_of run choice it ≡ Ends (WaitsForLate ∷ []) Finalize None
+ended_is run choice it h e = of_end run choice it.rank it.journal it.line it.entry it.comms it.came_back it.called h e
+
+-- a call after which nothing is known of the rank
+pub broken_is : (run : Run) (choice : Choice) (it : Placed) (why : Why) → breaks_off it.called ≡ Some why → outcome_of run choice it ≡ ends why
+broken_is run choice it why e = of_break run choice it.rank it.journal it.line it.entry it.comms it.came_back it.called why e

@@ -14,7 +14,7 @@ use Rattle.journals.specs.Words.{word_of}
 use Rattle.closing.specs.Entries.{Run}
 use Rattle.closing.specs.Entry.{Choice}
 use Rattle.closing.specs.Recording.{Recording, calls_of, recording_of}
-use Rattle.closing.specs.inner.Left.{Left, left_of}
+use Rattle.closing.specs.Left.{Left, left_of}
 use Rattle.closing.specs.declared.choice.Calls.TheVariants as calls
 use Rattle.closing.specs.declared.choice.Tests.TheVariants as tests
 use Rattle.closing.specs.declared.why.Why.TheVariants.{NeverCameBack, NeverReported, Failed, CannotBe, NoJournal}

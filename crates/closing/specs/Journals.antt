@@ -1,9 +1,11 @@
 -- The journals of a run, by the texts of its files: that of rank 0, and those of other ranks, which may not be there.
-use Rattle.std.specs.Prelude.{ℕ, ◌-◌, Option, Some, None, Result, Ok, Err, List, [], ◌∷◌}
+use Rattle.std.specs.Prelude.{ℕ, ◌-◌, Option, Some, None, Result, Ok, Err, option_map, List, [], ◌∷◌, map}
 use Rattle.std.specs.List.{range_with_len}
 use Rattle.journals.specs.Header.{Heading}
 use Rattle.journals.specs.Text.{text_of, whole_lines}
 use Rattle.journals.specs.Journal.{Journal, Fault, journal_of_lines}
+use Rattle.journals.specs.JournalAnswers.{heading_in}
+use Rattle.journals.specs.declared.journal.Journal.{Journal as JournalRead}
 use Rattle.closing.specs.Entries.{Run}
 
 pub record RankFault : Type 0 where
@@ -41,3 +43,12 @@ after_first (Ok journal) texts =
 -- the journals, or the first fault of the lowest rank that has one
 unfoldable pub run_of : List ℕ → (ℕ → Option (List ℕ)) → Result Run RankFault
 run_of first texts = after_first (journal_of 0 None first) texts
+
+-- ---- Journals that were read ----
+
+abbrev pub journal_in : JournalRead → Journal
+journal_in it = record { heading = heading_in it.header; lines = it.lines }
+
+-- the run whose journals these are
+abbrev pub run_in : List (Option JournalRead) → Run
+run_in journals = map (option_map journal_in) journals

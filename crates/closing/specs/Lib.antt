@@ -3,10 +3,13 @@ pub mod Endings
 pub mod Entries
 pub mod Entry
 pub mod Fit
+pub mod FitComms
 pub mod Groups
 pub mod RankComms
+pub mod Recordings
 pub mod Journals
 pub mod Keys
+pub mod Left
 pub mod Made
 pub mod Numbers
 pub mod Recording

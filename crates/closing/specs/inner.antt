@@ -1,5 +1,4 @@
 -- What journals stand for. No public clause cites it yet.
-pub mod Left
 pub mod Views
 pub mod Words
 pub mod Outcomes
@@ -17,4 +16,6 @@ pub mod Table
 pub mod Holds
 pub mod Surveyed
 pub mod Numbered
-pub mod FitComms
+pub mod Makers
+pub mod Rankwise
+pub mod SoFar

@@ -2,11 +2,13 @@
 
 ghost use Rattle.std.specs.Prelude.{◌≡◌, drop};
 ghost use Rattle.journals.specs.declared.word.Word.TheVariants.{Report};
+ghost use Rattle.journals.specs.JournalAnswers.{heading_in};
 ghost use Rattle.journals.specs.Taking.{word_at};
 ghost use Rattle.closing.specs.Entries.{comes_always, says_back};
 ghost use Rattle.closing.specs.inner.Noted.{AreReports, HavePlaces, IsLastCall, first_place, noted, report_if, reports_in};
 
 use crate::places::count_of;
+use journals::journal::Journal;
 use journals::lines::Lines;
 use journals::word::{CallWord, ReportWord, Word};
 
@@ -118,4 +120,11 @@ pub(crate) fn last_call(lines: &Lines, is_outside: bool) -> Option<LastCall>
         }
     }
     None
+}
+
+/// The last call line of a rank's journal, and whether its call came back.
+pub(crate) fn last_call_of(journal: &Journal) -> Option<LastCall>
+    ensures { HavePlaces journal.now.lines → IsLastCall journal.now.lines (heading_in journal.now.header).is_outside result }
+{
+    last_call(&journal.lines, journal.header.is_outside())
 }

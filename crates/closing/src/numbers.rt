@@ -13,7 +13,7 @@ ghost use Rattle.closing.specs.Keys.{group_of_key};
 ghost use Rattle.closing.specs.RankComms as waves;
 ghost use Rattle.closing.specs.Entries.{Run, entries_at};
 ghost use Rattle.closing.specs.Entry.{brings, parent_rank};
-ghost use Rattle.closing.specs.inner.FitComms.{HasFitComms};
+ghost use Rattle.closing.specs.FitComms.{HasFitComms};
 ghost use Rattle.closing.specs.Made.{inferred_key};
 ghost use Rattle.closing.specs.Numbers.{number_of, preface_lines, preface_split, rank_in};
 ghost use Rattle.closing.specs.declared.keys.Wave as code;

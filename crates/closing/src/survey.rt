@@ -1,8 +1,28 @@
 //! Which communicators the ranks of a run have, and which of them calls name.
 
+ghost use Rattle.std.specs.Prelude.{◌≡◌, ◌<◌, ◌-◌, ◌++◌, ℕ, List, [], length, replicate, slice_get, IfOk, OnOk, Option, Some, None, option_map, false, ◌+◌, ◌≤◌, ◌∷◌};
+ghost use Rattle.std.specs.List.{AllZip, filter_map};
+ghost use Rattle.std.specs.Option.{option_copied};
+ghost use Rattle.journals.specs.Lines.{Line};
+ghost use Rattle.journals.specs.JournalAnswers.{heading_in};
+ghost use Rattle.journals.specs.declared.word.Word.TheVariants as words;
+ghost use Rattle.closing.specs.Called.{called};
+ghost use Rattle.closing.specs.Entries.{Run, entries_in, journal_at};
+ghost use Rattle.closing.specs.FitComms.{HasFitComms};
+ghost use Rattle.closing.specs.Keys.{Key as SaidKey};
+ghost use Rattle.closing.specs.Made as made;
+ghost use Rattle.closing.specs.RankComms.{comms_after, comms_first, after_call, after_line, after_lines};
+ghost use Rattle.closing.specs.RankComms as say;
+ghost use Rattle.closing.specs.inner.Holds.{HasComms, report_taken};
+ghost use Rattle.closing.specs.inner.Noted.{HavePlaces, IsLastCall};
+ghost use Rattle.closing.specs.inner.Surveyed.{HasGot, HasRank, IsSurveyed, IsSurveyedTo, Keeps, TakesRank, IsFound, Await, HaveNone, as_list, gives_at, journal_of_code, names_by, names_from, run_of_journals, inferred_with, waits_at, waits_for, with_name};
+ghost use Rattle.closing.specs.declared.keys.Wave.{Wave as WaveCode};
+ghost use Rattle.closing.specs.Table.{Table};
+ghost use Rattle.closing.specs.inner.Table.{HasKey, IsPlaceOf, IsTable, IsWaveOf, ranks_in};
+
 use crate::called::read_call;
 use crate::keys::{Key, Keys, Wave};
-use crate::last::{LastCall, last_call};
+use crate::last::{LastCall, last_call_of};
 use crate::places::{checked_place, count_of};
 use crate::rank_comms::RankComms;
 use journals::field::Field;
@@ -30,7 +50,9 @@ pub(crate) struct Survey {
 }
 
 impl Survey {
-    fn new(alloc: Global, ranks: u32) -> Result<Survey, AllocError> {
+    fn new(alloc: Global, ranks: u32) -> Result<Survey, AllocError>
+        ensures { IfOk result (λ it. (run : Run) → length run ≡ ranks → IsSurveyedTo run 0 it) }
+    {
         Ok(Survey {
             alloc,
             keys: Keys::new(alloc, ranks)?,
@@ -43,17 +65,24 @@ impl Survey {
     }
 
     /// Notes that a call names the communicator of a key.
-    fn name(&mut self, key: Option<u32>) {
-        if let Some(key) = key {
-            if let Some(named) = self.named.get_mut(key as usize) {
-                *named = true;
-            }
+    fn name(&mut self, key: Option<u32>)
+        ensures same { self.new ≡ record self.old { named = self.new.named } }
+        ensures named { self.new.named.items ≡ with_name key self.old.named.items }
+    {
+        let Some(key) = key else {
+            return;
+        };
+        if let Some(named) = self.named.get_mut(key as usize) {
+            *named = true;
         }
     }
 
     /// Has a place for each key.
-    fn make_room(&mut self) -> Result<(), AllocError> {
-        for _ in self.named.len()..self.keys.count() {
+    fn make_room(&mut self) -> Result<(), AllocError>
+        ensures same { self.new ≡ record self.old { named = self.new.named } }
+        ensures named { OnOk result (length self.old.named.items ≤ length self.old.keys.codes → self.new.named.items ≡ self.old.named.items ++ replicate (length self.old.keys.codes - length self.old.named.items) false) }
+    {
+        for place in self.named.len()..self.keys.count() {
             self.named.push(false)?;
         }
         Ok(())
@@ -64,21 +93,41 @@ impl Survey {
         comms: &mut RankComms,
         word: CallWord,
         fields: &[Field],
-    ) -> Result<(), AllocError> {
+    ) -> Result<(), AllocError>
+        ensures same { self.new ≡ record self.old { keys = self.new.keys; named = self.new.named; got = self.new.got } }
+        ensures takes { OnOk result ((before names : List SaidKey) (it : say.RankComms) → HasRank before names it self.old comms.old →
+            Keeps before (names ++ names_by it (words.Call word) fields.now) (after_call it (called word fields.now)) self.old self.new comms.new) }
+    {
         let it = read_call(word, fields);
         let on = comms.key_on(&it);
         self.name(on);
         comms.take_call(&mut self.keys, &it, on)?;
-        self.take_of_group(comms.own())
+        let own = comms.own();
+        self.take_of_group(own)?;
+        Ok(())
     }
 
     /// Notes that the rank got the communicator of a group by its call, which names it, if it did.
-    fn take_of_group(&mut self, key: Option<u32>) -> Result<(), AllocError> {
+    fn take_of_group(&mut self, key: Option<u32>) -> Result<(), AllocError>
+        ensures same { self.new ≡ record self.old { named = self.new.named; got = self.new.got } }
+        ensures takes { OnOk result ((gots names : List SaidKey) (own : Option SaidKey) → HasGot gots names self.old → IsPlaceOf self.old.keys key own →
+            HasGot (gots ++ as_list own) (names ++ as_list own) self.new) }
+        ensures room { OnOk result (length self.old.named.items ≤ length self.old.keys.codes → length self.new.named.items ≡ length self.new.keys.codes) }
+    {
+        self.make_room()?;
+        self.name(key);
+        self.push_got(key)?;
+        Ok(())
+    }
+
+    /// Adds a key that was got, if one was.
+    fn push_got(&mut self, key: Option<u32>) -> Result<(), AllocError>
+        ensures same { self.new ≡ record self.old { got = self.new.got } }
+        ensures got { OnOk result (self.new.got.items ≡ self.old.got.items ++ as_list key) }
+    {
         let Some(key) = key else {
             return Ok(());
         };
-        self.make_room()?;
-        self.name(Some(key));
         self.got.push(key)?;
         Ok(())
     }
@@ -88,91 +137,216 @@ impl Survey {
         comms: &mut RankComms,
         word: ReportWord,
         fields: &[Field],
-    ) -> Result<(), AllocError> {
-        if let Some(key) = comms.take_report(&mut self.keys, word, fields)? {
-            self.make_room()?;
-            self.got.push(key)?;
+    ) -> Result<(), AllocError>
+        ensures same { self.new ≡ record self.old { keys = self.new.keys; named = self.new.named; got = self.new.got } }
+        ensures takes { OnOk result ((before names : List SaidKey) (it : say.RankComms) → HasRank before names it self.old comms.old →
+            Keeps before names (report_taken it word fields.now) self.old self.new comms.new) }
+    {
+        let key = comms.take_report(&mut self.keys, word, fields)?;
+        self.make_room()?;
+        self.push_got(key)?;
+        Ok(())
+    }
+
+    /// Takes a line of the rank's journal.
+    fn take_line(
+        &mut self,
+        comms: &mut RankComms,
+        lines: &Lines,
+        line: u32,
+    ) -> Result<(), AllocError>
+        ensures same { self.new ≡ record self.old { keys = self.new.keys; named = self.new.named; got = self.new.got } }
+        ensures takes { OnOk result ((before names : List SaidKey) (it : say.RankComms) (there : Line) → slice_get lines.now line ≡ Some there → HasRank before names it self.old comms.old →
+            Keeps before (names ++ names_by it there.word there.fields) (after_line it there) self.old self.new comms.new) }
+    {
+        let fields = lines.fields(line);
+        match lines.word(line) {
+            Some(Word::Call(word)) => {
+                self.take_call(comms, word, fields)?;
+                Ok(())
+            }
+            Some(Word::Report(word)) => {
+                self.take_report(comms, word, fields)?;
+                Ok(())
+            }
+            None => Ok(()),
+        }
+    }
+
+    fn take_lines(&mut self, comms: &mut RankComms, lines: &Lines) -> Result<(), AllocError>
+        ensures same { self.new ≡ record self.old { keys = self.new.keys; named = self.new.named; got = self.new.got } }
+        ensures takes { OnOk result ((before names : List SaidKey) (it : say.RankComms) → HavePlaces lines.now → HasRank before names it self.old comms.old →
+            Keeps before (names ++ names_from it lines.now) (after_lines it lines.now) self.old self.new comms.new) }
+    {
+        for line in 0..count_of(lines) {
+            self.take_line(comms, lines, line)?;
         }
         Ok(())
     }
 
-    fn take_lines(&mut self, comms: &mut RankComms, lines: &Lines) -> Result<(), AllocError> {
-        for line in 0..count_of(lines) {
-            let fields = lines.fields(line);
-            match lines.word(line) {
-                Some(Word::Call(word)) => self.take_call(comms, word, fields)?,
-                Some(Word::Report(word)) => self.take_report(comms, word, fields)?,
-                None => {}
+    /// What the next rank has before all lines of its journal.
+    fn start_rank(&mut self, rank: u32) -> Result<RankComms, AllocError>
+        ensures same { self.new ≡ record self.old { keys = self.new.keys; named = self.new.named; got = self.new.got } }
+        ensures starts { IfOk result (λ kept. (before names : List SaidKey) → HasGot before names self.old →
+            Keeps before names (comms_first rank) self.old self.new kept) }
+    {
+        let alone = self.keys.put_alone(rank)?;
+        self.make_room()?;
+        self.push_got(Some(alone))?;
+        let comms = RankComms::first(self.alloc, alone)?;
+        Ok(comms)
+    }
+
+    /// Takes the lines of the next rank's journal, if it has one, and answers the wave that its last call waits for.
+    fn take_rank(
+        &mut self,
+        rank: u32,
+        journal: Option<&Journal>,
+    ) -> Result<Option<Wave>, AllocError>
+        ensures same { self.new ≡ record self.old { keys = self.new.keys; named = self.new.named; got = self.new.got } }
+        ensures takes { IfOk result (λ wave. (run : Run) → journal_at run rank ≡ option_map journal_of_code (option_copied journal.entry) →
+            (before names : List SaidKey) → HasGot before names self.old → TakesRank run rank before names self.old self.new wave) }
+    {
+        let mut comms = self.start_rank(rank)?;
+        match journal {
+            Some(journal) => {
+                checked_place(journal.lines.count())?;
+                self.take_lines(&mut comms, &journal.lines)?;
+                Ok(wave_of_last(journal, &comms))
             }
+            None => Ok(None),
         }
-        Ok(())
     }
 
     /// Takes the journal of the next rank.
-    fn take_journal(&mut self, rank: u32, journal: Option<&Journal>) -> Result<(), AllocError> {
-        let alone = self.keys.put_alone(rank)?;
-        self.make_room()?;
-        self.got.push(alone)?;
-        let mut comms = RankComms::first(self.alloc, alone)?;
-        let mut waiting = None;
-        if let Some(journal) = journal {
-            self.take_lines(&mut comms, &journal.lines)?;
-            waiting = wave_of_last(journal, &comms);
-        }
+    fn take_journal(&mut self, rank: u32, journal: Option<&Journal>) -> Result<(), AllocError>
+        ensures { OnOk result ((run : Run) → journal_at run rank ≡ option_map journal_of_code (option_copied journal.entry) →
+            IsSurveyedTo run rank self.old → IsSurveyedTo run (rank + 1) self.new) }
+    {
+        let waiting = self.take_rank(rank, journal)?;
         self.waiting.push(waiting)?;
         self.ends.push(self.got.len())?;
         Ok(())
     }
 
-    /// The communicator of a key may be what the last call of one of its members made.
-    fn tell_members(&mut self, key: u32, made_by: Wave) {
-        for member in self.keys.group(key) {
-            let rank = *member as usize;
-            if let (Some(waiting), Some(inferred)) = (
-                self.waiting.get(rank),
-                self.inferred.get_mut(rank),
-            ) {
-                if inferred.is_none() && *waiting == Some(made_by) {
-                    *inferred = Some(key);
-                }
-            }
-        }
+    /// The communicator of a key, if calls of a wave made it, may be what last calls made.
+    fn tell_key(&mut self, key: u32)
+        ensures same { self.new ≡ record self.old { inferred = self.new.inferred } }
+        ensures found { (ranks rank : ℕ) (gots : List SaidKey) (it : SaidKey) (waiting : Option WaveCode) (wave : Option say.Wave) → IsTable self.old.keys →
+            ranks_in self.old.keys ≡ ranks → HasKey self.old.keys key it → slice_get self.old.waiting.items rank ≡ Some waiting → IsWaveOf self.old.keys waiting wave →
+            IsFound self.old ranks gots wave rank → IsFound self.new ranks (gots ++ it ∷ []) wave rank }
+    {
+        let Key::Made { wave, .. } = self.keys.key(key) else {
+            return;
+        };
+        let members = self.keys.group(key);
+        tell_members(&self.waiting, &mut self.inferred, members, key, wave);
     }
 
-    /// Finds what the last calls made, as others report it: keys stand in the order of the lowest ranks that
-    /// report them.
-    fn find_inferred(&mut self) -> Result<(), AllocError> {
-        for key in 0..checked_place(self.keys.count())? {
-            if let Key::Made { wave, .. } = self.keys.key(key) {
-                self.tell_members(key, wave);
-            }
+    /// Finds what the last calls made, as others report it, in the order of the lowest ranks that do.
+    fn find_inferred(&mut self)
+        ensures same { self.new ≡ record self.old { inferred = self.new.inferred } }
+        ensures found { (ranks : ℕ) (gots : List SaidKey) (wave : ℕ → Option say.Wave) → IsTable self.old.keys → ranks_in self.old.keys ≡ ranks →
+            AllZip (HasKey self.old.keys) self.old.got.items gots → Await self.old ranks wave → HaveNone self.old ranks →
+            (rank : ℕ) → rank < ranks → IsFound self.new ranks gots (wave rank) rank }
+    {
+        for index in 0..self.got.len() {
+            let key = self.got[index];
+            self.tell_key(key);
         }
-        Ok(())
     }
 
     /// The communicators by the journals of all ranks.
-    pub(crate) fn of(alloc: Global, journals: &[Option<Journal>]) -> Result<Survey, AllocError> {
+    pub(crate) fn of(alloc: Global, journals: &[Option<Journal>]) -> Result<Survey, AllocError>
+        ensures { IfOk result (λ it. HasFitComms (run_of_journals journals.now) → IsSurveyed (run_of_journals journals.now) it) }
+    {
         let mut survey = Survey::new(alloc, checked_place(journals.len())?)?;
         for rank in 0..journals.len() {
             survey.take_journal(checked_place(rank)?, journals[rank].as_ref())?;
         }
-        survey.find_inferred()?;
+        survey.find_inferred();
         Ok(survey)
     }
 }
 
-/// The wave of the last call, where that may have made a communicator, and never came back.
-fn wave_of_last(journal: &Journal, comms: &RankComms) -> Option<Wave> {
-    let last = last_call(&journal.lines, journal.header.is_outside())?;
-    if last.came_back || !may_give(&journal.lines, last) {
+/// Whether the last call of a rank waits for what a wave made.
+fn waits(waiting: &[Option<Wave>], rank: u32, made_by: Wave) -> bool
+    ensures { result ≡ waits_at waiting.now rank made_by }
+{
+    match waiting.get(rank as usize) {
+        Some(Some(wave)) => *wave == made_by,
+        _ => false,
+    }
+}
+
+/// The last call of a rank may have made the communicator of a key.
+fn tell(
+    waiting: &[Option<Wave>],
+    inferred: &mut Vec<Option<u32>>,
+    rank: u32,
+    key: u32,
+    made_by: Wave,
+)
+    ensures { (other : ℕ) → slice_get inferred.new.items other ≡ inferred_with waiting.now inferred.old.items (rank ∷ []) key made_by other }
+{
+    if !waits(waiting, rank, made_by) {
+        return;
+    }
+    let Some(it) = inferred.get_mut(rank as usize) else {
+        return;
+    };
+    if it.is_some() {
+        return;
+    }
+    *it = Some(key);
+}
+
+/// The communicator of a key may be what the last call of one of its members made.
+fn tell_members(
+    waiting: &[Option<Wave>],
+    inferred: &mut Vec<Option<u32>>,
+    members: &[u32],
+    key: u32,
+    made_by: Wave,
+)
+    ensures { (rank : ℕ) → slice_get inferred.new.items rank ≡ inferred_with waiting.now inferred.old.items members.now key made_by rank }
+{
+    for member in members {
+        tell(waiting, inferred, *member, key, made_by);
+    }
+}
+
+/// Whether the call of a line may give its rank a communicator.
+fn may_give(lines: &Lines, line: u32) -> bool
+    ensures { result ≡ gives_at lines.now line }
+{
+    let Some(Word::Call(word)) = lines.word(line) else {
+        return false;
+    };
+    read_call(word, lines.fields(line)).may_give()
+}
+
+/// The wave of this last call, where that may have made a communicator, and never came back.
+fn wave_of(journal: &Journal, comms: &RankComms, last: LastCall) -> Option<Wave>
+    ensures { (table : Table) (rank : ℕ) → IsLastCall journal.now.lines (heading_in journal.now.header).is_outside (Some last) → HasComms table comms.now (comms_after rank journal.now.lines) →
+        IsWaveOf table result (slice_get (filter_map waits_for (entries_in rank (Some (journal_of_code journal.now)))) 0) }
+{
+    if last.came_back {
+        return None;
+    }
+    if !may_give(&journal.lines, last.line) {
         return None;
     }
     comms.wave()
 }
 
-fn may_give(lines: &Lines, last: LastCall) -> bool {
-    let Some(Word::Call(word)) = lines.word(last.line) else {
-        return false;
-    };
-    read_call(word, lines.fields(last.line)).may_give()
+/// The wave of the last call, where that may have made a communicator, and never came back.
+fn wave_of_last(journal: &Journal, comms: &RankComms) -> Option<Wave>
+    ensures { (table : Table) (rank : ℕ) → HavePlaces journal.now.lines → HasComms table comms.now (comms_after rank journal.now.lines) →
+        IsWaveOf table result (slice_get (filter_map waits_for (entries_in rank (Some (journal_of_code journal.now)))) 0) }
+{
+    match last_call_of(journal) {
+        Some(last) => wave_of(journal, comms, last),
+        None => None,
+    }
 }

@@ -1,12 +1,36 @@
 //! The list of a rank, made entry by entry of its journal.
 
-ghost use Rattle.std.specs.Prelude.{◌≡◌, ◌+◌, ◌<◌, [], ◌++◌, List as Items};
-ghost use Rattle.closing.specs.inner.Lists.{Stands};
-ghost use Rattle.closing.specs.Steps.{Progress};
+ghost use Rattle.std.specs.Prelude.{◌≡◌, ◌+◌, ◌<◌, ◌^◌, ℕ, [], ◌∷◌, ◌++◌, true, Some, None, IsTrue, OnOk, length, drop, List as Items, ◌≤◌, ◌⊎◌, false, IfOk, option_map};
+ghost use Rattle.mpicall.specs.Limits.{in_ranges};
+ghost use Rattle.mpicall.specs.declared.call.Call.TheVariants.{Open};
+ghost use Rattle.journals.specs.Taking.{word_at, fields_at as fields_in};
+ghost use Rattle.journals.specs.declared.word.ReportWord.{ReportWord as Reported};
+ghost use Rattle.journals.specs.declared.word.Word.TheVariants.{Report};
+ghost use Rattle.closing.specs.Entries.{Placed, Run, journal_at, lines_at};
+ghost use Rattle.closing.specs.Entry.{is_past};
 ghost use Rattle.closing.specs.Endings.{breaks_off};
-ghost use Rattle.closing.specs.Recording.{is_end};
+ghost use Rattle.closing.specs.Recording.{is_end, progress_first};
+ghost use Rattle.closing.specs.Steps.{Progress};
+ghost use Rattle.closing.specs.inner.Holds.{HasComms};
+ghost use Rattle.closing.specs.inner.Lists.{Stands};
+ghost use Rattle.closing.specs.inner.Makers.{MayMake};
+ghost use Rattle.closing.specs.inner.Noted.{came_back_at, reports_in, line_if};
+ghost use Rattle.closing.specs.inner.SoFar.{comms_at, IsAtEntry, IsBefore, IsBegun, IsEntered, IsFitEntry, IsReady, IsWalk, placed_here};
+ghost use Rattle.closing.specs.inner.Standings.{id_in};
+ghost use Rattle.closing.specs.inner.Table.{Grows};
 ghost use Rattle.closing.specs.inner.Views.{called_view};
-ghost use Rattle.closing.specs.inner.Walked.{fields_of_line, number_at, number_or, size_at};
+ghost use Rattle.std.specs.List.{list_all};
+ghost use Rattle.closing.specs.Numbers.{preface_of};
+ghost use Rattle.closing.specs.inner.Numbered.{IsNumberedRun};
+ghost use Rattle.closing.specs.Called.{called};
+ghost use Rattle.closing.specs.Fit.{IsFit};
+ghost use Rattle.closing.specs.Journals.{journal_in};
+ghost use Rattle.closing.specs.RankComms.{comms_first, makes_comm};
+ghost use Rattle.closing.specs.Recordings.{choice_in};
+ghost use Rattle.journals.specs.Header.{Heading};
+ghost use Rattle.closing.specs.inner.RequestReports.{AreReadable};
+ghost use Rattle.closing.specs.inner.Walked.{LateCall, Meets, TakesCall, choice_view, fields_of_line, id_after, number_at, number_or, size_at};
+ghost use Rattle.closing.specs.inner.Walks.{Spot};
 
 use crate::called::{Called, read_call};
 use crate::choice::{Calls, Choice};
@@ -110,6 +134,9 @@ pub struct Walk {
     next: u32,
     /// The number of the entry's line.
     line: u32,
+    /// How many records were handed on, and how many were made before the entry.
+    handed: usize,
+    before: usize,
     is_over: bool,
     left: Option<Left>,
 }
@@ -140,8 +167,15 @@ fn is_end(it: &Called<'_>) -> bool
 }
 
 /// The fields of a line, where there is one.
-fn fields_if(lines: &Lines, line: Option<u32>) -> Option<&[Field]> {
-    Some(lines.fields(line?))
+#[tactic(auto, using(crate::proofs::AtLemmas::fields_there, crate::proofs::AtLemmas::fields_none))]
+fn fields_if(lines: &Lines, line: Option<u32>) -> Option<&[Field]>
+    ensures { option_map (λ fields. fields.now) result ≡ option_map (λ line. line.fields) (line_if lines.now line) }
+{
+    let line = line?;
+    match lines.word(line) {
+        Some(_) => Some(lines.fields(line)),
+        None => None,
+    }
 }
 
 /// The same; none where there is no line.
@@ -162,7 +196,16 @@ impl Walk {
         choice: Choice,
         run: &mut Communicators,
         journal: Option<&Journal>,
-    ) -> Result<Walk, AllocError> {
+    ) -> Result<Walk, AllocError>
+        ensures rank { IfOk result (λ it. (it.rank ≡ rank) × (it.choice ≡ choice)) }
+        ensures handed { IfOk result (λ it. it.handed ≡ 0) }
+        ensures before { IfOk result (λ it. it.before ≡ 0) }
+        ensures alone { IfOk result (λ it. journal.entry ≡ None → it.is_over ≡ true) }
+        ensures run { OnOk result (run.new ≡ record run.old { keys = run.new.keys }) }
+        ensures walk { IfOk result (λ it. (said : Run) → IsNumberedRun said run.old → IsFit said (choice_in choice) → rank < length said →
+            journal_at said rank ≡ option_map (λ one. journal_in one.now) journal.entry → length (lines_at said rank) ≤ 4294967292 →
+            IsWalk said (choice_in choice) run.new.keys it × Grows run.old.keys run.new.keys) }
+    {
         let alone = run.keys.put_alone(u32::from(rank))?;
         let mut walk = Walk {
             rank,
@@ -176,6 +219,8 @@ impl Walk {
             wanted: Vec::new(alloc),
             next: 0,
             line: 0,
+            handed: 0,
+            before: 0,
             is_over: false,
             left: None,
         };
@@ -188,7 +233,11 @@ impl Walk {
     }
 
     /// A preface has fewer lines than a list may have.
-    fn put_preface(&mut self, run: &Communicators) -> Result<(), AllocError> {
+    fn put_preface(&mut self, run: &Communicators) -> Result<(), AllocError>
+        ensures same { OnOk result (self.new ≡ record self.old { list = self.new.list }) }
+        ensures stands { OnOk result ((said : Run) → IsNumberedRun said run.now → self.old.rank < length said → IsTrue (list_all in_ranges (preface_of said self.old.rank)) →
+            Stands [] (record { records = []; active = []; late = [] }) self.old.list → Stands [] (progress_first said self.old.rank) self.new.list) }
+    {
         for line in 0..run.preface.count() {
             self.list.put(run.preface.split(line, self.rank))?;
         }
@@ -201,7 +250,14 @@ impl Walk {
         alloc: Global,
         run: &mut Communicators,
         journal: &Journal,
-    ) -> Result<(), AllocError> {
+    ) -> Result<(), AllocError>
+        ensures same { OnOk result (self.new ≡ record self.old { requests = self.new.requests; last = self.new.last; comms = self.new.comms; next = self.new.next }) }
+        ensures run { OnOk result (run.new ≡ record run.old { keys = run.new.keys }) }
+        ensures begun { OnOk result (AreReadable journal.now.lines → HasComms run.old.keys self.old.comms (comms_first self.old.rank) →
+            IsBegun run.new.keys (journal_in journal.now) self.new) }
+        ensures grows { OnOk result (AreReadable journal.now.lines → HasComms run.old.keys self.old.comms (comms_first self.old.rank) →
+            Grows run.old.keys run.new.keys) }
+    {
         self.requests = Standing::of(alloc, &journal.lines)?;
         self.last = last_call(&journal.lines, journal.header.is_outside());
         let reports = reports_from(&journal.lines, 0);
@@ -211,7 +267,11 @@ impl Walk {
     }
 
     /// Ends the list before its end.
-    fn leave(&mut self, why: Why) -> Result<(), AllocError> {
+    #[tactic(auto, using(crate::proofs::PartLemmas::cut_is, crate::proofs::PartLemmas::cut_begins))]
+    fn leave(&mut self, why: Why) -> Result<(), AllocError>
+        ensures same { OnOk result (self.new ≡ record self.old { list = self.new.list; is_over = true; left = Some (record { line = self.old.line; why = why }) }) }
+        ensures end { OnOk result (self.new.list.records.items ≡ self.old.list.records.items ++ Open ∷ []) }
+    {
         self.left = Some(Left {
             line: self.line,
             why,
@@ -219,7 +279,10 @@ impl Walk {
         self.finish(Call::Open)
     }
 
-    fn finish(&mut self, end: Call) -> Result<(), AllocError> {
+    fn finish(&mut self, end: Call) -> Result<(), AllocError>
+        ensures same { OnOk result (self.new ≡ record self.old { list = self.new.list; is_over = true }) }
+        ensures end { OnOk result (IsTrue (in_ranges end) → self.new.list.records.items ≡ self.old.list.records.items ++ end ∷ []) }
+    {
         self.is_over = true;
         self.list.put(end)
     }
@@ -235,11 +298,14 @@ impl Walk {
 
     /// Those records were handed on.
     pub(crate) fn forget_records(&mut self)
-        ensures same { self.new ≡ record self.old { list = self.new.list } }
+        ensures same { self.new ≡ record self.old { list = self.new.list; handed = self.new.handed } }
         ensures none { self.new.list.records.items ≡ [] }
+        ensures handed { self.old.handed + length self.old.list.records.items < 2 ^ 64 → self.new.handed ≡ self.old.handed + length self.old.list.records.items }
         ensures stands { (handed : Items Call) (progress : Progress) → Stands handed progress self.old.list →
             Stands (handed ++ self.old.list.records.items) progress self.new.list }
     {
+        let count = self.list.records().len();
+        self.handed = self.handed.saturating_add(count);
         self.list.forget_records();
     }
 
@@ -269,25 +335,54 @@ impl Walk {
 
     // ---- Entries ----
 
+    /// Takes the report at a place, if there is one, and answers the key of the communicator that the call before
+    /// it made.
+    #[tactic(auto, using(crate::proofs::PlacedLemmas::comms_reported))]
+    fn take_report(
+        &mut self,
+        run: &mut Communicators,
+        lines: &Lines,
+        line: u32,
+    ) -> Result<Option<u32>, AllocError>
+        ensures same { self.new ≡ record self.old { comms = self.new.comms } }
+        ensures run { run.new ≡ record run.old { keys = run.new.keys } }
+        ensures comms { OnOk result ((rank : ℕ) (word : Reported) → word_at lines.now line ≡ Some (Report word) → HasComms run.old.keys self.old.comms (comms_at rank lines.now line) →
+            HasComms run.new.keys self.new.comms (comms_at rank lines.now (line + 1))) }
+        ensures grows { OnOk result ((rank : ℕ) → HasComms run.old.keys self.old.comms (comms_at rank lines.now line) → Grows run.old.keys run.new.keys) }
+    {
+        let Some(Word::Report(word)) = lines.word(line) else {
+            return Ok(None);
+        };
+        let key = self
+            .comms
+            .take_report(&mut run.keys, word, lines.fields(line))?;
+        match word {
+            ReportWord::Comm => Ok(key),
+            _ => Ok(None),
+        }
+    }
+
     /// Takes the reports at some places, and answers the key of the communicator that the call before them
     /// made.
+    #[tactic(auto, using(crate::proofs::SoFarLemmas::reports_first, crate::proofs::SoFarLemmas::reports_next, crate::proofs::SoFarLemmas::reports_last))]
     fn take_reports(
         &mut self,
         run: &mut Communicators,
         lines: &Lines,
         start: u32,
         end: u32,
-    ) -> Result<Option<u32>, AllocError> {
+    ) -> Result<Option<u32>, AllocError>
+        ensures same { self.new ≡ record self.old { comms = self.new.comms } }
+        ensures run { run.new ≡ record run.old { keys = run.new.keys } }
+        ensures comms { OnOk result ((rank : ℕ) → end ≡ start + length (reports_in (drop start lines.now)) → HasComms run.old.keys self.old.comms (comms_at rank lines.now start) →
+            HasComms run.new.keys self.new.comms (comms_at rank lines.now end)) }
+        ensures grows { OnOk result ((rank : ℕ) → end ≡ start + length (reports_in (drop start lines.now)) → HasComms run.old.keys self.old.comms (comms_at rank lines.now start) →
+            Grows run.old.keys run.new.keys) }
+    {
         let mut made = None;
         for line in start..end {
-            if let Some(Word::Report(word)) = lines.word(line) {
-                let key = self
-                    .comms
-                    .take_report(&mut run.keys, word, lines.fields(line))?;
-                if word == ReportWord::Comm {
-                    made = key;
-                }
-            }
+            let key = self.take_report(run, lines, line)?;
+            made = made.or(key);
         }
         Ok(made)
     }
@@ -297,7 +392,23 @@ impl Walk {
         &mut self,
         run: &mut Communicators,
         lines: &Lines,
-    ) -> Result<(), AllocError> {
+    ) -> Result<(), AllocError>
+        ensures rank { (self.new.rank ≡ self.old.rank) × (self.new.choice ≡ self.old.choice) }
+        ensures handed { self.new.handed ≡ self.old.handed }
+        ensures before { OnOk result (self.old.handed + length self.old.list.records.items < 2 ^ 64 → self.new.before ≡ self.old.handed + length self.old.list.records.items) }
+        ensures run { run.new ≡ record run.old { keys = run.new.keys } }
+        ensures next { OnOk result (length lines.now ≤ 4294967292 → (self.new.is_over ≡ true) ⊎ ((self.old.next < length lines.now) × (self.old.next < self.new.next))) }
+        ensures walk { OnOk result ((said : Run) (heading : Heading) → IsFit said (choice_in self.old.choice) → IsNumberedRun said run.old →
+            length lines.now ≤ 4294967292 → journal_at said self.old.rank ≡ Some (record { heading = heading; lines = lines.now }) →
+            self.old.is_over ≡ false → IsWalk said (choice_in self.old.choice) run.old.keys self.old →
+            IsWalk said (choice_in self.old.choice) run.new.keys self.new × Grows run.old.keys run.new.keys) }
+        ensures more { OnOk result ((said : Run) (heading : Heading) → IsFit said (choice_in self.old.choice) → IsNumberedRun said run.old →
+            length lines.now ≤ 4294967292 → journal_at said self.old.rank ≡ Some (record { heading = heading; lines = lines.now }) →
+            self.old.is_over ≡ false → IsWalk said (choice_in self.old.choice) run.old.keys self.old →
+            length self.old.list.records.items ≤ length self.new.list.records.items) }
+    {
+        let waiting = self.list.records().len();
+        self.before = self.handed.saturating_add(waiting);
         let Some(Word::Call(word)) = lines.word(self.next) else {
             self.line = 0;
             return self.finish(Call::Open);
@@ -310,31 +421,43 @@ impl Walk {
         self.line = line_number(entry.place);
         self.next = entry.reports.end;
         match self.take_entry(run, lines, &entry) {
-            Ok(()) => Ok(()),
+            Ok(true) => self.finish(Call::Finalize),
+            Ok(false) => Ok(()),
             Err(Stop::Left(why)) => self.leave(why),
             Err(Stop::Memory) => Err(AllocError),
         }
     }
 
-    /// Takes an entry.
+    /// Takes an entry, and answers whether it is the end of the rank's calls.
     fn take_entry(
         &mut self,
         run: &mut Communicators,
         lines: &Lines,
         entry: &Entry,
-    ) -> Result<(), Stop> {
+    ) -> Result<bool, Stop>
+        ensures same { self.new ≡ record self.old { comms = self.new.comms; list = self.new.list; requests = self.new.requests; late = self.new.late; ids = self.new.ids; wanted = self.new.wanted } }
+        ensures outcomes { self.new.requests.outcomes ≡ self.old.requests.outcomes }
+        ensures run { run.new ≡ record run.old { keys = run.new.keys } }
+        ensures entered { (said : Run) (heading : Heading) (handed : Items Call) (progress : Progress) →
+            IsBefore said (record { heading = heading; lines = lines.now }) run.old self.old entry.now →
+            IsReady said (choice_in self.old.choice) (record { heading = heading; lines = lines.now }) handed progress self.old entry.now →
+            IsEntered said (choice_in self.old.choice) (placed_here self.old.rank (record { heading = heading; lines = lines.now }) entry.now.place entry.now.word)
+                result handed progress run.old.keys run.new.keys entry.now.reports.end self.new }
+    {
         let it = read_call(entry.word, lines.fields(entry.place));
         if let Some(why) = breaks_off(&it) {
             return Err(Stop::Left(why));
         }
         if is_end(&it) {
-            return self.finish_list();
+            self.list.waits_for(self.late.as_slice())?;
+            return Ok(true);
         }
         if entry.reports.has_failed {
             return Err(Stop::Left(Why::Failed));
         }
         let at = self.at(run, lines, entry, &it)?;
-        self.take(run, lines, &at, &it)
+        self.take(run, lines, &at, &it)?;
+        Ok(false)
     }
 
     /// Where the call of an entry stands. It, and what is reported of it, are taken.
@@ -344,7 +467,22 @@ impl Walk {
         lines: &'a Lines,
         entry: &Entry,
         it: &Called<'_>,
-    ) -> Result<At<'a>, AllocError> {
+    ) -> Result<At<'a>, AllocError>
+        ensures same { self.new ≡ record self.old { comms = self.new.comms } }
+        ensures run { run.new ≡ record run.old { keys = run.new.keys } }
+        ensures at { IfOk result (λ at. (said : Run) (heading : Heading) →
+            IsBefore said (record { heading = heading; lines = lines.now }) run.old self.old entry.now →
+            called_view it.now ≡ called entry.now.word (fields_in lines.now entry.now.place) →
+            IsFitEntry said (placed_here self.old.rank (record { heading = heading; lines = lines.now }) entry.now.place entry.now.word) →
+            IsAtEntry said (choice_in self.old.choice) (placed_here self.old.rank (record { heading = heading; lines = lines.now }) entry.now.place entry.now.word) run.new at) }
+        ensures comms { OnOk result ((said : Run) (heading : Heading) →
+            IsBefore said (record { heading = heading; lines = lines.now }) run.old self.old entry.now →
+            called_view it.now ≡ called entry.now.word (fields_in lines.now entry.now.place) →
+            HasComms run.new.keys self.new.comms (comms_at self.old.rank lines.now entry.now.reports.end)) }
+        ensures grows { OnOk result ((said : Run) (heading : Heading) →
+            IsBefore said (record { heading = heading; lines = lines.now }) run.old self.old entry.now →
+            called_view it.now ≡ called entry.now.word (fields_in lines.now entry.now.place) → Grows run.old.keys run.new.keys) }
+    {
         let on = self.comms.key_on(it);
         let wave = self.comms.take_call(&mut run.keys, it, on)?;
         let key = self.comms.own().or(on);
@@ -361,7 +499,9 @@ impl Walk {
     }
 
     /// Whether the call came back.
-    fn came_back(&self, place: u32) -> bool {
+    fn came_back(&self, place: u32) -> bool
+        ensures { result ≡ came_back_at self.now.last place }
+    {
         match self.last {
             Some(last) => last.line != place || last.came_back,
             None => true,
@@ -369,7 +509,9 @@ impl Walk {
     }
 
     /// Whether the call stands for what it started alone.
-    fn is_past(&self, place: u32) -> bool {
+    fn is_past(&self, place: u32) -> bool
+        ensures { (placed : Placed) → placed.came_back ≡ came_back_at self.now.last place → result ≡ is_past self.now.choice.calls placed }
+    {
         self.choice.calls == Calls::Went && self.came_back(place)
     }
 
@@ -382,13 +524,6 @@ impl Walk {
         }
     }
 
-    /// Ends the list where the rank's calls end, after the waits for the sends that tests completed.
-    fn finish_list(&mut self) -> Result<(), Stop> {
-        self.list.waits_for(self.late.as_slice())?;
-        self.finish(Call::Finalize)?;
-        Ok(())
-    }
-
     /// Puts the lines of an entry, or answers why the list ends at it.
     fn take(
         &mut self,
@@ -396,7 +531,15 @@ impl Walk {
         lines: &Lines,
         at: &At<'_>,
         it: &Called<'_>,
-    ) -> Result<(), Stop> {
+    ) -> Result<(), Stop>
+        ensures same { self.new ≡ record self.old { list = self.new.list; requests = self.new.requests; ids = self.new.ids; wanted = self.new.wanted; late = self.new.late } }
+        ensures outcomes { self.new.requests.outcomes ≡ self.old.requests.outcomes }
+        ensures ids { OnOk result ((request : ℕ) → id_in self.new.requests request ≡ id_after (called_view it.now) (id_in self.old.requests) request) }
+        ensures takes { (spot : Spot) → Meets spot lines.now self.old.requests at.now it.now → MayMake spot run.now self.old.rank at.now it.now →
+            TakesCall (choice_view self.old.choice) spot (called_view it.now) result self.old.list self.new.list }
+        ensures late { OnOk result ((spot : Spot) → Meets spot lines.now self.old.requests at.now it.now →
+            LateCall (choice_view self.old.choice) spot (called_view it.now) self.old.list self.old.late.items self.new.late.items) }
+    {
         match it {
             Called::Sends(mode, sent) => self.sends(at, *mode, sent),
             Called::StartsSend(own, mode, sent) => self.starts_send(at, *own, *mode, sent),
@@ -420,10 +563,10 @@ impl Walk {
             }
             Called::StartsDuplicate(own, _) => self.starts_duplicate(at, *own),
             Called::MakesOfGroup(_) => self.makes_of_group(at),
-            Called::Duplicates(_) | Called::Splits(..) | Called::Makes(_) => {
-                self.makes(run, at, it)
-            }
-            _ => self.take_wait(at, it),
+            Called::Duplicates(_) => self.makes(run, at, it),
+            Called::Splits(..) => self.makes(run, at, it),
+            Called::Makes(_) => self.makes(run, at, it),
+            _ => self.take_wait(lines, at, it),
         }
     }
 }

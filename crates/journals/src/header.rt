@@ -32,18 +32,6 @@ pub struct Header {
     ghost some: { 1 ≤ ranks },
 }
 
-impl Header {
-    /// How many ranks the run has.
-    pub fn ranks(&self) -> u32 {
-        self.ranks
-    }
-
-    /// Whether the call of the last call line came back.
-    pub fn is_outside(&self) -> bool {
-        self.is_outside
-    }
-}
-
 /// Whether the rank is outside the call of its last call line.
 fn state_of(field: &[u8]) -> Option<bool>
     ensures { result ≡ state_of field.now }

@@ -43,6 +43,22 @@ fn is_of_run(header: &Header, line: &HeaderLine<'_>) -> bool
     header.ranks == line.ranks && header.run.as_slice() == line.run
 }
 
+impl Header {
+    /// How many ranks the run has.
+    pub fn ranks(&self) -> u32
+        ensures { result ≡ (heading_in self.now).ranks }
+    {
+        self.ranks
+    }
+
+    /// Whether the call of the last call line came back.
+    pub fn is_outside(&self) -> bool
+        ensures { result ≡ (heading_in self.now).is_outside }
+    {
+        self.is_outside
+    }
+}
+
 /// A journal without a fault.
 #[derive(Drop)]
 pub struct Journal {

@@ -11,18 +11,15 @@ use Rattle.waitgraph.proofs.VerdictLemmas.{verdict_of_graph}
 use Rattle.report.specs.Judged.{judged_of}
 use Rattle.report.specs.declared.judged.Judged.{Judged}
 use Rattle.report.specs.declared.write.Format.{Format}
-use Rattle.judging.specs.Judging.{IsJudgedReport}
+use Rattle.judging.specs.inner.Reported.{IsReported}
 
 pub judged_written : {O : Type 0} (written : O → Option (List ℕ)) (old new : O) (format : Format) (reading : Reading) (groups : Groups) (recording : Lists) (graph : GraphView) (judged : Judged) (verdict : Verdict) →
     length recording ≡ ranks_of groups → IsClosed recording → IsGraphOf reading groups recording graph → verdict ≡ verdict_by graph.held graph.left_open →
     Appends (written old) (written new) (judged_of format reading groups recording (verdict_by graph.held graph.left_open) graph.causes judged) →
-    (report : List ℕ) × IsJudgedReport reading format verdict report × Appends (written old) (written new) report
+    (report : List ℕ) × IsReported reading format groups recording judged verdict report × Appends (written old) (written new) report
 judged_written written old new format reading groups recording graph judged verdict ranks closed is says appends = (
   judged_of format reading groups recording (verdict_by graph.held graph.left_open) graph.causes judged,
   record {
-    groups = groups;
-    recording = recording;
-    judged = judged;
     one_a_rank = ranks;
     closed = closed;
     is_verdict = subst (λ (v : Verdict). IsVerdictOf reading groups recording v) (sym says) (verdict_of_graph reading groups recording graph is);

@@ -1,30 +1,115 @@
--- What `judge` reports, as far as that is proved: the report of some closed recording, and its verdict. Which recording
--- that is, isn't said here.
-use Rattle.std.specs.Prelude.{◌≡◌, ℕ, Option, List, length}
+-- What `judge` reports: the report of a closed recording, and its verdict. Where the files of the journals are known, the
+-- recording is that of the run that they hold, or the fault is theirs.
+use Rattle.std.specs.Prelude.{◌≡◌, ℕ, Bool, false, not, Option, Ok, Err, List, [], length, map, codes, ⊤}
+use Rattle.std.specs.List.{filter}
 use Rattle.mpicall.specs.Device.{one_more, AppendsBeginning}
 use Rattle.mpigroup.specs.Groups.{Groups, ranks_of}
 use Rattle.callstore.specs.Recordings.{Lists, IsClosed}
-use Rattle.moves.specs.declared.reading.Reading.{Reading}
+use Rattle.findings.specs.Findings.{findings_of}
+use Rattle.findings.specs.declared.finding.Finding.{Finding}
+use Rattle.findings.specs.declared.finding.Finding.TheVariants.{Request}
 use Rattle.waitgraph.specs.Causes.{CauseView, AreCauses}
 use Rattle.waitgraph.specs.Verdicts.{IsVerdictOf}
 use Rattle.waitgraph.specs.declared.verdict.Verdict.{Verdict}
 use Rattle.report.specs.Judged.{judged_of}
 use Rattle.report.specs.declared.judged.Judged.{Judged}
-use Rattle.report.specs.declared.write.Format.{Format}
+use Rattle.report.specs.declared.judged.LeftAt.{LeftAt}
+use Rattle.journals.specs.declared.limits.TheConstants.{MOST_RANKS}
+use Rattle.closing.specs.Entries.{Run}
+use Rattle.closing.specs.Entry.{Choice}
+use Rattle.closing.specs.Journals.{RankFault, run_of}
+use Rattle.closing.specs.Recording.{recording_of, calls_of}
+use Rattle.closing.specs.Recordings.{choice_in}
+use Rattle.closing.specs.Left.{Left, left_of}
+use Rattle.closing.specs.declared.choice.Calls.{Calls}
+use Rattle.closing.specs.declared.choice.Calls.TheVariants.{Strict, Went}
+use Rattle.closing.specs.declared.why.Why.{Why}
+use Rattle.closing.specs.declared.why.Why.TheVariants as why
+use Rattle.judging.specs.JournalTexts.{Known, AreKnown, IsFaultOfFiles}
 use Rattle.judging.specs.declared.judge.JudgeFault.{JudgeFault}
-use Rattle.judging.specs.declared.judge.JudgeFault.TheVariants.{Write}
+use Rattle.judging.specs.declared.judge.JudgeFault.TheVariants.{Read, Memory, Write}
+use Rattle.judging.specs.declared.judge.Manner.{Manner}
 
--- by the reading, report and verdict are those of a closed recording
-pub record IsJudgedReport (reading : Reading) (format : Format) (verdict : Verdict) (report : List ℕ) : Type 0 where
+-- ---- What the report of a run has in addition ----
+
+-- the finding is of a request that is left out, by the rank and the place that started it
+abbrev pub is_left_out : (ℕ → ℕ → Bool) → Finding → Bool
+is_left_out left_out (Request rank place request) = left_out rank place
+is_left_out left_out finding = false
+
+-- the findings but these; as it went there is none
+abbrev pub reported_by : Calls → (ℕ → ℕ → Bool) → List Finding → List Finding
+reported_by Went left_out findings = []
+reported_by Strict left_out findings = filter (λ finding. not (is_left_out left_out finding)) findings
+
+-- of the findings nothing is left out but some requests
+pub record AreReported (calls : Calls) (findings reported : List Finding) : Type 0 where
+  pub left_out : ℕ → ℕ → Bool
+  pub are : reported ≡ reported_by calls left_out findings
+
+abbrev pub words_of : Why → List ℕ
+words_of why.NeverCameBack = codes "never came back"
+words_of why.NeverReported = codes "never told"
+words_of why.Failed = codes "failed"
+words_of why.NoNumber = codes "no number"
+words_of why.TooLong = codes "too long"
+words_of why.CannotBe = codes "cannot be"
+words_of why.Stopped = codes "stopped"
+words_of why.Aborted = codes "aborted"
+words_of why.Full = codes "full"
+words_of why.NoJournal = codes "no journal"
+
+-- at which line, and why, the list of a rank ends before its end
+pub record LeftWords : Type 0 where
+  pub rank : ℕ
+  pub line : ℕ
+  pub words : List ℕ
+
+abbrev pub left_words : Left → LeftWords
+left_words it = record { rank = it.rank; line = it.line; words = words_of it.why }
+
+abbrev pub left_said : LeftAt → LeftWords
+left_said it = record { rank = it.rank; line = it.line; words = it.why.now }
+
+-- groups and lists are those of the run's recording, and what is said in addition is of it
+pub record IsRecordingOfRun (run : Run) (choice : Choice) (groups : Groups) (recording : Lists) (judged : Judged) : Type 0 where
+  pub groups_are : groups ≡ (recording_of run choice).groups
+  pub lists_are : recording ≡ map calls_of (recording_of run choice).lists
+  pub findings_are : AreReported choice.calls (findings_of groups recording) judged.findings.now
+  pub left_is : map left_said judged.left.now ≡ map left_words (left_of (recording_of run choice).lists)
+
+-- ---- Reports ----
+
+-- by the manner's reading, report and verdict are those of a closed recording; where the files are known, they hold a
+-- run, and the recording is that of the run
+pub record IsJudgedReport (known : Known) (manner : Manner) (verdict : Verdict) (report : List ℕ) : Type 0 where
   pub groups : Groups
   pub recording : Lists
   pub judged : Judged
   pub one_a_rank : length recording ≡ ranks_of groups
   pub closed : IsClosed recording
-  pub is_verdict : IsVerdictOf reading groups recording verdict
+  pub is_verdict : IsVerdictOf manner.reading groups recording verdict
   pub causes : List CauseView
-  pub are_causes : AreCauses reading groups recording causes
-  pub is_text : report ≡ judged_of format reading groups recording verdict causes judged
+  pub are_causes : AreCauses manner.reading groups recording causes
+  pub is_text : report ≡ judged_of manner.format manner.reading groups recording verdict causes judged
+  pub of_run : (first : List ℕ) (texts : ℕ → Option (List ℕ)) (run : Run) → AreKnown known (length run) first texts →
+      run_of first texts ≡ Ok run → IsRecordingOfRun run (choice_in manner.choice) groups recording judged
+  pub of_none_refused : (first : List ℕ) (texts : ℕ → Option (List ℕ)) (fault : RankFault) → AreKnown known MOST_RANKS first texts →
+      run_of first texts ≡ Err fault → ⊥
+
+-- ---- Faults ----
+
+-- the files aren't known to hold a run
+abbrev pub HoldNoRun : Known → Type 0
+HoldNoRun known =
+    (first : List ℕ) (texts : ℕ → Option (List ℕ)) (run : Run) → AreKnown known (length run) first texts → run_of first texts ≡ Ok run → ⊥
+
+-- the fault is that of reading the journals; no head, call or end of a recording of known files has one
+abbrev pub IsFaultOfJudge : Known → JudgeFault → Type 0
+IsFaultOfJudge known (Read fault) = IsFaultOfFiles known fault
+IsFaultOfJudge known Memory = ⊤
+IsFaultOfJudge known Write = ⊤
+IsFaultOfJudge known fault = HoldNoRun known
 
 -- only a failed write leaves the output other than it was: with a prefix of a text, and one failure more
 abbrev pub LeavesAt : {O : Type 0} → (O → Option (List ℕ)) → (O → ℕ) → O → O → JudgeFault → Type 0

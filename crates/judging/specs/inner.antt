@@ -1,2 +1,9 @@
 -- What nobody has to believe: these definitions are cited by proofs and private contracts alone.
+pub mod Closed
+pub mod Heads
+pub mod OneJournal
+pub mod Reported
+pub mod Spots
+pub mod Tables
+pub mod Turns
 pub mod Unwritten

@@ -1,12 +1,21 @@
 //! The report of the recording that the journals of a run are.
 
-ghost use Rattle.std.specs.Prelude.{◌≡◌, ◌≤◌, ℕ, All, List, length, IfErr, IfOk, OnOk};
+ghost use Rattle.std.specs.Prelude.{◌≡◌, ◌≤◌, ℕ, All, List, true, length, map, IfErr, IfOk, OnOk};
 ghost use Rattle.std.specs.Io.KnownBytes.{Appends};
 ghost use Rattle.callstore.specs.Recordings.{IsClosed};
 ghost use Rattle.waitgraph.specs.Graphs.{IsGraphOf};
 ghost use Rattle.report.specs.declared.judged.TheConstants.{MOST_WORDS};
-ghost use Rattle.judging.specs.Judging.{IsJudgedReport, LeavesAt};
-ghost use Rattle.judging.specs.inner.Unwritten.{IsUnwritten};
+ghost use Rattle.report.specs.declared.write.Format.TheVariants.{Json};
+ghost use Rattle.closing.specs.Numbers.{groups_of};
+ghost use Rattle.closing.specs.Recording.{recording_of};
+ghost use Rattle.closing.specs.Recordings.{choice_in};
+ghost use Rattle.closing.specs.Left.{left_of};
+ghost use Rattle.lawful.specs.Laws.{IsRead};
+ghost use Rattle.judging.specs.Judging.{IsFaultOfJudge, IsJudgedReport, LeavesAt, left_said, left_words, words_of};
+ghost use Rattle.judging.specs.inner.Reported.{IsLate, IsReported, IsReportedOf, IsRunOf, fault_of_reading};
+ghost use Rattle.judging.specs.inner.Tables.{HasTable};
+ghost use Rattle.judging.specs.inner.Turns.{HasAll, IsDone, IsFresh};
+ghost use Rattle.judging.specs.inner.Unwritten.{IsOfRecording, IsUnwritten};
 ghost use Rattle.judging.specs.declared.judge.JudgeFault.TheVariants.{Memory};
 
 use crate::head::head_text;
@@ -72,7 +81,9 @@ pub struct Manner {
 
 /// The head of a recording.
 fn head_of(alloc: Global, recording: &Recording) -> Result<Head, JudgeFault>
-    ensures { IfErr result IsUnwritten }
+    ensures head { IfOk result (λ head. IsRead recording.now.run → head ≡ groups_of recording.now.run) }
+    ensures fault { IfErr result IsOfRecording }
+    ensures lawful { IfErr result (λ fault. IsRead recording.now.run → fault ≡ Memory) }
 {
     let text = head_text(alloc, recording.ranks(), recording.communicators())?;
     match Head::read(alloc, text.as_bytes()) {
@@ -84,7 +95,8 @@ fn head_of(alloc: Global, recording: &Recording) -> Result<Head, JudgeFault>
 
 /// Why the journals of a run aren't judged, which weren't read.
 fn of_reading(fault: ReadFault) -> JudgeFault
-    ensures { IsUnwritten result }
+    ensures unwritten { IsUnwritten result }
+    ensures same { result ≡ fault_of_reading fault }
 {
     match fault {
         ReadFault::Memory => JudgeFault::Memory,
@@ -99,7 +111,13 @@ fn lists_of<J: Journals>(
     manner: Manner,
     wait: &impl Wait,
 ) -> Result<Lists, JudgeFault>
-    ensures { IfErr result IsUnwritten }
+    ensures run { IfOk result (λ lists. IsRunOf (J.known journals.now) lists.recording.run) }
+    ensures choice { IfOk result (λ lists. lists.recording.choice ≡ choice_in manner.choice) }
+    ensures fresh { IfOk result (λ lists. IsFresh lists.recording) }
+    ensures table { IfOk result HasTable }
+    ensures wanted { IfOk result (λ lists. manner.format ≡ Json → lists.table.is_wanted ≡ true) }
+    ensures unwritten { IfErr result IsUnwritten }
+    ensures fault { IfErr result (IsFaultOfJudge (J.known journals.now)) }
 {
     let journals = match read_journals(alloc, journals, wait) {
         Ok(journals) => journals,
@@ -114,7 +132,10 @@ fn lists_of<J: Journals>(
 fn analyser_of(alloc: Global, lists: &mut Lists, reading: Reading) -> Result<Analyser, JudgeFault>
     ensures reading { IfOk result (λ analyser. analyser.reading ≡ reading) }
     ensures closed { IfOk result (λ analyser. IsClosed analyser.recording) }
-    ensures fault { IfErr result IsUnwritten }
+    ensures all { IfOk result (λ analyser. IsFresh lists.old.recording → IsRead lists.old.recording.run →
+        HasAll lists.old.recording lists.new.recording analyser) }
+    ensures fault { IfErr result IsOfRecording }
+    ensures lawful { IfErr result (λ fault. IsFresh lists.old.recording → IsRead lists.old.recording.run → fault ≡ Memory) }
 {
     let head = head_of(alloc, &lists.recording)?;
     let mut analyser = Analyser::new(alloc, head, reading)?;
@@ -129,7 +150,7 @@ fn analyser_of(alloc: Global, lists: &mut Lists, reading: Reading) -> Result<Ana
 fn graph_of(alloc: Global, analyser: &Analyser) -> Result<Graph, JudgeFault>
     requires { IsClosed analyser.now.recording }
     ensures graph { IfOk result (IsGraphOf analyser.now.reading analyser.now.groups analyser.now.recording) }
-    ensures fault { IfErr result IsUnwritten }
+    ensures fault { IfErr result (λ fault. fault ≡ Memory) }
 {
     match Graph::of(alloc, analyser) {
         Ok(graph) => Ok(graph),
@@ -139,7 +160,8 @@ fn graph_of(alloc: Global, analyser: &Analyser) -> Result<Graph, JudgeFault>
 
 /// The words for why a list ended before its end.
 fn why_text(why: Why) -> &'static str
-    ensures { length result.now ≤ MOST_WORDS }
+    ensures short { length result.now ≤ MOST_WORDS }
+    ensures words { result.now ≡ words_of why }
 {
     match why {
         Why::NeverCameBack => "never came back",
@@ -157,7 +179,9 @@ fn why_text(why: Why) -> &'static str
 
 /// At which lines, and why, lists ended before their ends.
 fn left_of(alloc: Global, recording: &Recording) -> Result<Vec<LeftAt>, AllocError>
-    ensures { IfOk result (λ all. All (λ one. length one.why.now ≤ MOST_WORDS) all.items) }
+    ensures short { IfOk result (λ all. All (λ one. length one.why.now ≤ MOST_WORDS) all.items) }
+    ensures left { IfOk result (λ all. IsDone recording.now → map left_said all.items
+        ≡ map left_words (left_of (recording_of recording.now.run recording.now.choice).lists)) }
 {
     let mut all = Vec::new(alloc);
     for rank in 0..recording.ranks() {
@@ -201,9 +225,10 @@ fn write_report<O: Output>(
     requires closed { IsClosed analyser.now.recording }
     requires graph { IsGraphOf analyser.now.reading analyser.now.groups analyser.now.recording graph.now }
     requires short { All (λ one. length one.why.now ≤ MOST_WORDS) judged.now.left.now }
-    ensures written { IfOk result (λ verdict. (report : List ℕ) × IsJudgedReport manner.reading manner.format verdict report × Appends (O.written out.old) (O.written out.new) report) }
+    ensures written { IfOk result (λ verdict. (report : List ℕ) × IsReported manner.reading manner.format analyser.now.groups analyser.now.recording judged.now verdict report × Appends (O.written out.old) (O.written out.new) report) }
     ensures no_write_failed { OnOk result (O.failures out.new ≡ O.failures out.old) }
     ensures output { IfErr result (LeavesAt O.written O.failures out.old out.new) }
+    ensures fault { IfErr result IsLate }
 {
     let verdict = graph.verdict();
     let _head = analyser.head();
@@ -227,9 +252,10 @@ fn report<O: Output>(
     requires reading { analyser.now.reading ≡ manner.reading }
     requires closed { IsClosed analyser.now.recording }
     requires graph { IsGraphOf analyser.now.reading analyser.now.groups analyser.now.recording graph.now }
-    ensures written { IfOk result (λ verdict. (report : List ℕ) × IsJudgedReport manner.reading manner.format verdict report × Appends (O.written out.old) (O.written out.new) report) }
+    ensures written { IfOk result (λ verdict. (report : List ℕ) × IsReportedOf lists.now.recording analyser.now manner verdict report × Appends (O.written out.old) (O.written out.new) report) }
     ensures no_write_failed { OnOk result (O.failures out.new ≡ O.failures out.old) }
     ensures output { IfErr result (LeavesAt O.written O.failures out.old out.new) }
+    ensures fault { IfErr result IsLate }
 {
     let recording = &lists.recording;
     let findings = reported_findings(alloc, recording, manner.choice, graph.findings())?;
@@ -245,7 +271,7 @@ fn report<O: Output>(
 }
 
 /// Judges the journals of a run, and writes the report of their recording.
-#[tactic(auto, using(crate::proofs::UnwrittenLemmas::leaves_as_it_was))]
+#[tactic(auto, using(crate::proofs::UnwrittenLemmas::unwritten))]
 pub fn judge<J: Journals, O: Output>(
     alloc: Global,
     journals: &J,
@@ -253,8 +279,9 @@ pub fn judge<J: Journals, O: Output>(
     wait: &impl Wait,
     out: &mut O,
 ) -> Result<Verdict, JudgeFault>
-    ensures written { IfOk result (λ verdict. (report : List ℕ) × IsJudgedReport manner.reading manner.format verdict report × Appends (O.written out.old) (O.written out.new) report) }
+    ensures written { IfOk result (λ verdict. (report : List ℕ) × IsJudgedReport (J.known journals.now) manner verdict report × Appends (O.written out.old) (O.written out.new) report) }
     ensures no_write_failed { OnOk result (O.failures out.new ≡ O.failures out.old) }
+    ensures fault { IfErr result (IsFaultOfJudge (J.known journals.now)) }
     ensures output { IfErr result (LeavesAt O.written O.failures out.old out.new) }
 {
     let mut lists = lists_of(alloc, journals, manner, wait)?;

@@ -1,5 +1,12 @@
 //! The journals of all ranks, read one by one.
 
+ghost use Rattle.std.specs.Prelude.{◌≡◌, ℕ, Option, List, is_some, option_map, IfErr, IfNone, IfOk, IfSome};
+ghost use Rattle.std.specs.Option.{option_copied};
+ghost use Rattle.journals.specs.JournalAnswers.{heading_in};
+ghost use Rattle.judging.specs.JournalTexts.{AreOfFiles, IsFaultOfFiles, bytes_in};
+ghost use Rattle.judging.specs.declared.read.ReadFault.TheVariants.{Memory};
+ghost use Rattle.judging.specs.inner.OneJournal.{AnswersOne, fault_as, first_heading, ranks_by};
+
 use journals::fault::JournalFault;
 use journals::journal::{Header, Journal, JournalError, read_journal};
 use journals::limits::MOST_RANKS;
@@ -8,15 +15,21 @@ use mpicall::device::Input;
 use std::alloc::{AllocError, AllocFailed, Global};
 use std::sync::Wait;
 
-/// Where the journals of a run are.
+/// Where the journals of a run are: `known` is what is known of a rank's file, that there is none, or its bytes.
 pub trait Journals {
     type In: Input + Drop;
 
-    /// Whether a rank has a journal.
-    fn is_there(&self, rank: u16) -> Result<bool, AllocError>;
+    ghost known: { Self → ℕ → Option (Option (List ℕ)) };
 
-    /// The journal of a rank, from its first byte on; None where it can't be opened.
-    fn open(&self, rank: u16) -> Result<Option<Self::In>, AllocError>;
+    /// Whether a rank has a journal.
+    fn is_there(&self, rank: u16) -> Result<bool, AllocError>
+        ensures { IfOk result (λ there. IfSome (known self.now rank) (λ bytes. there ≡ is_some bytes)) };
+
+    /// The journal of a rank, from its first byte on; None where it can't be opened. One whose bytes are known
+    /// can be.
+    fn open(&self, rank: u16) -> Result<Option<Self::In>, AllocError>
+        ensures opened { IfOk result (λ opened. IfSome opened (λ input. Self.In.left input ≡ bytes_in (known self.now rank))) }
+        ensures unopened { IfOk result (λ opened. IfNone opened (bytes_in (known self.now rank) ≡ None)) };
 }
 
 /// Why the journals of a run weren't read: what is wrong with that of the lowest rank that has something
@@ -32,18 +45,24 @@ pub enum ReadFault {
 }
 
 impl From<AllocError> for ReadFault {
+    ghost from_gives = { λ _ fault. fault ≡ Memory };
+
     fn from(_fault: AllocError) -> ReadFault {
         ReadFault::Memory
     }
 }
 
 impl<T: Drop> From<AllocFailed<T>> for ReadFault {
+    ghost from_gives = { λ _ fault. fault ≡ Memory };
+
     fn from(_fault: AllocFailed<T>) -> ReadFault {
         ReadFault::Memory
     }
 }
 
-fn fault_of(rank: u16, error: JournalError) -> ReadFault {
+fn fault_of(rank: u16, error: JournalError) -> ReadFault
+    ensures { result ≡ fault_as rank error }
+{
     match error {
         JournalError::Fault(fault) => ReadFault::Refused { rank, fault },
         JournalError::ReadFailed { line } => ReadFault::ReadFailed { rank, line },
@@ -58,7 +77,9 @@ fn read_of<J: Journals>(
     rank: u16,
     first: Option<&Header>,
     wait: &impl Wait,
-) -> Result<Option<Journal>, ReadFault> {
+) -> Result<Option<Journal>, ReadFault>
+    ensures { AnswersOne (J.known journals.now rank) rank (option_map heading_in (option_copied first.entry)) result }
+{
     if rank > 0 && !journals.is_there(rank)? {
         return Ok(None);
     }
@@ -73,7 +94,9 @@ fn read_of<J: Journals>(
 }
 
 /// The header of the first journal.
-fn first_header(journals: &[Option<Journal>]) -> Option<&Header> {
+fn first_header(journals: &[Option<Journal>]) -> Option<&Header>
+    ensures { option_map heading_in (option_copied result) ≡ first_heading journals.now }
+{
     match journals.first() {
         Some(Some(journal)) => Some(&journal.header),
         _ => None,
@@ -81,7 +104,9 @@ fn first_header(journals: &[Option<Journal>]) -> Option<&Header> {
 }
 
 /// How many ranks the run has, by the header of its first journal.
-fn ranks_of(journals: &[Option<Journal>]) -> u16 {
+fn ranks_of(journals: &[Option<Journal>]) -> u16
+    ensures { result ≡ ranks_by (first_heading journals.now) }
+{
     match first_header(journals) {
         Some(header) => header.ranks().min(MOST_RANKS) as u16,
         None => 1,
@@ -93,7 +118,10 @@ pub fn read_journals<J: Journals>(
     alloc: Global,
     journals: &J,
     wait: &impl Wait,
-) -> Result<Vec<Option<Journal>>, ReadFault> {
+) -> Result<Vec<Option<Journal>>, ReadFault>
+    ensures run { IfOk result (λ all. AreOfFiles (J.known journals.now) all.items) }
+    ensures fault { IfErr result (IsFaultOfFiles (J.known journals.now)) }
+{
     let mut all = Vec::new(alloc);
     all.push(read_of(alloc, journals, 0, None, wait)?)?;
     for rank in 1..ranks_of(all.as_slice()) {

@@ -1,5 +1,10 @@
 //! Which findings the report of journals has.
 
+ghost use Rattle.std.specs.Prelude.{◌≡◌, IfOk};
+ghost use Rattle.closing.specs.declared.choice.Calls.TheVariants.{Strict};
+ghost use Rattle.judging.specs.Judging.{AreReported, is_left_out, reported_by};
+ghost use Rattle.judging.specs.inner.Spots.{has_spot};
+
 use closing::choice::{Calls, Choice};
 use closing::recording::Recording;
 use findings::finding::Finding;
@@ -47,11 +52,32 @@ fn freed_by_all(alloc: Global, recording: &Recording) -> Result<HashSet<Spot>, A
     Ok(freed)
 }
 
-fn is_of_freed(freed: &HashSet<Spot>, finding: &Finding) -> bool {
+/// Whether the finding is of such a request.
+#[tactic(auto, using(crate::proofs::ReportedLemmas::found_spot))]
+fn is_of_freed(freed: &HashSet<Spot>, finding: &Finding) -> bool
+    ensures { result ≡ is_left_out (has_spot freed.now) finding.now }
+{
     match *finding {
         Finding::Request { rank, place, .. } => freed.contains(&Spot { rank, place }),
         _ => false,
     }
+}
+
+/// The findings but those of freed requests.
+fn but_freed(
+    alloc: Global,
+    freed: &HashSet<Spot>,
+    findings: &[Finding],
+) -> Result<Vec<Finding>, AllocError>
+    ensures { IfOk result (λ reported. reported.items ≡ reported_by Strict (has_spot freed.now) findings.now) }
+{
+    let mut reported = Vec::new(alloc);
+    for finding in findings {
+        if !is_of_freed(freed, finding) {
+            reported.push(*finding)?;
+        }
+    }
+    Ok(reported)
 }
 
 /// The findings but those of freed requests; as it went there is none.
@@ -60,7 +86,9 @@ pub(crate) fn reported_findings(
     recording: &Recording,
     choice: Choice,
     findings: &[Finding],
-) -> Result<Vec<Finding>, AllocError> {
+) -> Result<Vec<Finding>, AllocError>
+    ensures { IfOk result (λ reported. AreReported choice.calls findings.now reported.items) }
+{
     if choice.calls == Calls::Went {
         return Ok(Vec::new(alloc));
     }
@@ -68,11 +96,5 @@ pub(crate) fn reported_findings(
         return Vec::from_slice(alloc, findings);
     }
     let freed = freed_by_all(alloc, recording)?;
-    let mut reported = Vec::new(alloc);
-    for finding in findings {
-        if !is_of_freed(&freed, finding) {
-            reported.push(*finding)?;
-        }
-    }
-    Ok(reported)
+    but_freed(alloc, &freed, findings)
 }

@@ -1,7 +1,13 @@
 //! The entries of all ranks, taken by turns, and their records handed to what judges them.
 
-ghost use Rattle.std.specs.Prelude.{◌≡◌, ◌<◌, length, IfErr};
-ghost use Rattle.judging.specs.inner.Unwritten.{IsUnwritten, KeepsRanks};
+ghost use Rattle.std.specs.Prelude.{◌≡◌, ◌==◌, ◌<◌, ◌^◌, ◌++◌, ℕ, [], true, None, length, replicate, slice_get, slice_set, unwrap_or, IfErr, IfOk, OnOk};
+ghost use Rattle.callstore.specs.Recordings.{appended, calls_of};
+ghost use Rattle.pairing.specs.Faults.{fault_of};
+ghost use Rattle.closing.specs.Recordings.{count_at};
+ghost use Rattle.judging.specs.declared.judge.JudgeFault.TheVariants.{Memory};
+ghost use Rattle.judging.specs.inner.Turns.{HandsOn, HasAll, HasTurn, HaveNoFault, HaveTurns, IsWithIt, appended_all};
+ghost use Rattle.judging.specs.inner.Tables.{HasTable, row_at, rows_of};
+ghost use Rattle.judging.specs.inner.Unwritten.{IsOfRecording, KeepsRanks};
 
 use crate::judge::JudgeFault;
 use closing::recording::Recording;
@@ -20,8 +26,21 @@ pub(crate) struct LineTable {
     lines: Vec<Vec<u32>>,
 }
 
+/// Adds a number as often as that.
+fn push_times(lines: &mut Vec<u32>, line: u32, count: usize) -> Result<(), AllocError>
+    ensures { OnOk result (lines.new.items ≡ lines.old.items ++ replicate count line) }
+{
+    for _ in 0..count {
+        lines.push(line)?;
+    }
+    Ok(())
+}
+
 impl LineTable {
-    pub(crate) fn new(alloc: Global, ranks: u16, is_wanted: bool) -> Result<LineTable, AllocError> {
+    pub(crate) fn new(alloc: Global, ranks: u16, is_wanted: bool) -> Result<LineTable, AllocError>
+        ensures wanted { IfOk result (λ table. table.is_wanted ≡ is_wanted) }
+        ensures none { IfOk result (λ table. rows_of table ≡ replicate ranks []) }
+    {
         let mut lines = Vec::new(alloc);
         for _ in 0..ranks {
             lines.push(Vec::new(alloc))?;
@@ -30,20 +49,24 @@ impl LineTable {
     }
 
     /// The next records of a rank, so many, are of one entry.
-    fn note(&mut self, rank: u16, line: u32, count: usize) -> Result<(), AllocError> {
+    fn note(&mut self, rank: u16, line: u32, count: usize) -> Result<(), AllocError>
+        ensures wanted { self.new.is_wanted ≡ self.old.is_wanted }
+        ensures noted { OnOk result (self.old.is_wanted ≡ true →
+            rows_of self.new ≡ slice_set (rows_of self.old) rank (row_at (rows_of self.old) rank ++ replicate count line)) }
+    {
         if !self.is_wanted {
             return Ok(());
         }
         if let Some(lines) = self.lines.get_mut(usize::from(rank)) {
-            for _ in 0..count {
-                lines.push(line)?;
-            }
+            push_times(lines, line, count)?;
         }
         Ok(())
     }
 
     /// The line of the record at a place.
-    pub(crate) fn line(&self, rank: u16, place: u32) -> u32 {
+    pub(crate) fn line(&self, rank: u16, place: u32) -> u32
+        ensures { result ≡ unwrap_or (slice_get (row_at (rows_of self.now) rank) place) 0 }
+    {
         let Some(lines) = self.lines.get(usize::from(rank)) else {
             return 0;
         };
@@ -70,12 +93,15 @@ fn ranks_of(analyser: &Analyser) -> u16
 
 /// Offers a record of a rank.
 #[tactic(auto, using(crate::proofs::TurnLemmas::turn_steps))]
-fn offer(analyser: &mut Analyser, rank: u16, record: &Record) -> Result<(), JudgeFault>
+fn offer(analyser: &mut Analyser, rank: u16, call: &Record) -> Result<(), JudgeFault>
     requires { rank < length analyser.old.recording }
     ensures kept { KeepsRanks analyser.old analyser.new }
-    ensures fault { IfErr result IsUnwritten }
+    ensures fault { IfErr result IsOfRecording }
+    ensures more { OnOk result (analyser.new.recording ≡ appended analyser.old.recording rank call.now) }
+    ensures lawful { IfErr result (λ fault.
+        fault_of analyser.old.groups rank (calls_of analyser.old.recording rank) call.now ≡ None → fault ≡ Memory) }
 {
-    match analyser.offer(rank, record) {
+    match analyser.offer(rank, call) {
         Ok(()) => Ok(()),
         Err(OfferFault::Refused(fault)) => Err(JudgeFault::Refused(Refusal {
             rank,
@@ -91,7 +117,10 @@ fn offer(analyser: &mut Analyser, rank: u16, record: &Record) -> Result<(), Judg
 fn offer_all(analyser: &mut Analyser, rank: u16, records: &[Record]) -> Result<(), JudgeFault>
     requires { rank < length analyser.old.recording }
     ensures kept { KeepsRanks analyser.old analyser.new }
-    ensures fault { IfErr result IsUnwritten }
+    ensures fault { IfErr result IsOfRecording }
+    ensures more { OnOk result (analyser.new.recording ≡ appended_all analyser.old.recording rank records.now) }
+    ensures lawful { IfErr result (λ fault.
+        HaveNoFault analyser.old.groups rank (calls_of analyser.old.recording rank) records.now → fault ≡ Memory) }
 {
     for record in records {
         offer(analyser, rank, record)?;
@@ -105,7 +134,11 @@ impl Lists {
     fn hand_on(&mut self, rank: u16, analyser: &mut Analyser) -> Result<(), JudgeFault>
         requires { rank < length analyser.old.recording }
         ensures kept { KeepsRanks analyser.old analyser.new }
-        ensures fault { IfErr result IsUnwritten }
+        ensures fault { IfErr result IsOfRecording }
+        ensures with_it { OnOk result (IsWithIt self.old.recording analyser.old → IsWithIt self.new.recording analyser.new) }
+        ensures table { OnOk result (IsWithIt self.old.recording analyser.old → HasTable self.old → HasTable self.new) }
+        ensures lawful { IfErr result (λ fault. IsWithIt self.old.recording analyser.old → fault ≡ Memory) }
+        ensures handed { OnOk result (IsWithIt self.old.recording analyser.old → HandsOn rank self.old.recording self.new.recording) }
     {
         let records = self.recording.records(rank);
         self.table
@@ -120,16 +153,21 @@ impl Lists {
     fn take_a_turn(&mut self, rank: u16, analyser: &mut Analyser) -> Result<(), JudgeFault>
         requires { rank < length analyser.old.recording }
         ensures kept { KeepsRanks analyser.old analyser.new }
-        ensures fault { IfErr result IsUnwritten }
+        ensures fault { IfErr result IsOfRecording }
+        ensures with_it { OnOk result (IsWithIt self.old.recording analyser.old → IsWithIt self.new.recording analyser.new) }
+        ensures table { OnOk result (IsWithIt self.old.recording analyser.old → HasTable self.old → HasTable self.new) }
+        ensures lawful { IfErr result (λ fault. IsWithIt self.old.recording analyser.old → fault ≡ Memory) }
+        ensures turn { OnOk result (IsWithIt self.old.recording analyser.old → HasTurn rank self.old.recording self.new.recording) }
     {
-        for _ in 0..ENTRIES_A_TURN {
+        for _entry in 0..ENTRIES_A_TURN {
             self.hand_on(rank, analyser)?;
             if self.recording.is_over(rank) {
                 return Ok(());
             }
             self.recording.step(rank)?;
         }
-        self.hand_on(rank, analyser)
+        self.hand_on(rank, analyser)?;
+        Ok(())
     }
 
     /// Takes a turn of a rank, unless its list has ended; says whether it has then.
@@ -137,7 +175,13 @@ impl Lists {
     fn take_next(&mut self, rank: u16, analyser: &mut Analyser) -> Result<bool, JudgeFault>
         requires { rank < length analyser.old.recording }
         ensures kept { KeepsRanks analyser.old analyser.new }
-        ensures fault { IfErr result IsUnwritten }
+        ensures fault { IfErr result IsOfRecording }
+        ensures with_it { OnOk result (IsWithIt self.old.recording analyser.old → IsWithIt self.new.recording analyser.new) }
+        ensures table { OnOk result (IsWithIt self.old.recording analyser.old → HasTable self.old → HasTable self.new) }
+        ensures lawful { IfErr result (λ fault. IsWithIt self.old.recording analyser.old → fault ≡ Memory) }
+        ensures turn { OnOk result (IsWithIt self.old.recording analyser.old → HasTurn rank self.old.recording self.new.recording) }
+        ensures over { IfOk result (λ is_over. is_over ≡ (count_at self.new.recording.left rank == 0)) }
+        ensures few { OnOk result (count_at self.old.recording.left rank < 2 ^ 32) }
     {
         if self.recording.is_over(rank) && self.recording.records(rank).is_empty() {
             return Ok(true);
@@ -150,7 +194,14 @@ impl Lists {
     #[tactic(auto, using(crate::proofs::TurnLemmas::turn_steps))]
     fn take_a_round(&mut self, analyser: &mut Analyser) -> Result<bool, JudgeFault>
         ensures kept { KeepsRanks analyser.old analyser.new }
-        ensures fault { IfErr result IsUnwritten }
+        ensures fault { IfErr result IsOfRecording }
+        ensures with_it { OnOk result (IsWithIt self.old.recording analyser.old → IsWithIt self.new.recording analyser.new) }
+        ensures table { OnOk result (IsWithIt self.old.recording analyser.old → HasTable self.old → HasTable self.new) }
+        ensures lawful { IfErr result (λ fault. IsWithIt self.old.recording analyser.old → fault ≡ Memory) }
+        ensures turns { OnOk result (IsWithIt self.old.recording analyser.old →
+            HaveTurns (length analyser.old.recording) self.old.recording self.new.recording) }
+        ensures over { IfOk result (λ are_over. IsWithIt self.old.recording analyser.old → are_over ≡ true →
+            (rank : ℕ) → rank < length analyser.old.recording → count_at self.new.recording.left rank ≡ 0) }
     {
         let mut are_over = true;
         for rank in 0..ranks_of(analyser) {
@@ -164,9 +215,13 @@ impl Lists {
     #[tactic(auto, using(crate::proofs::TurnLemmas::turn_steps))]
     pub(crate) fn take_all(&mut self, analyser: &mut Analyser) -> Result<(), JudgeFault>
         ensures kept { KeepsRanks analyser.old analyser.new }
-        ensures fault { IfErr result IsUnwritten }
+        ensures fault { IfErr result IsOfRecording }
+        ensures lawful { IfErr result (λ fault. IsWithIt self.old.recording analyser.old → fault ≡ Memory) }
+        ensures all { OnOk result (IsWithIt self.old.recording analyser.old →
+            HasAll self.old.recording self.new.recording analyser.new) }
+        ensures table { OnOk result (IsWithIt self.old.recording analyser.old → HasTable self.old → HasTable self.new) }
     {
-        for _ in 0..u32::MAX {
+        for _round in 0..u32::MAX {
             if self.take_a_round(analyser)? {
                 return Ok(());
             }

@@ -22,7 +22,7 @@ use Rattle.closing.specs.RankComms.{RankComms, comms_first, after_call, after_re
 use Rattle.closing.specs.Entries.{Run, Placed, journal_at, entries_from, entries_in, entries_at, ranks_of}
 use Rattle.closing.specs.Entry.{Choice}
 use Rattle.closing.specs.Recording.{Listed, calls_of, is_end, list_of, recording_of}
-use Rattle.closing.specs.inner.Left.{left_from, left_of}
+use Rattle.closing.specs.Left.{left_from, left_of}
 use Rattle.closing.specs.declared.why.Why.{Why}
 use Rattle.lawful.specs.Laws.{IsRead}
 use Rattle.lawful.specs.Free.{AreGoneThrough, IsNoneLeftOpen, HasCalledItsEnd, WhatIsFreeIsWhole}

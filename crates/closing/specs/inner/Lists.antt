@@ -3,6 +3,7 @@ use Rattle.std.specs.Prelude.{◌≡◌, ℕ, ◌+◌, ◌-◌, ◌<◌, ◌≤�
 use Rattle.std.specs.HashMap.{get}
 use Rattle.mpicall.specs.declared.call.Call.{Call}
 use Rattle.mpicall.specs.declared.call.Call.TheVariants.{Isend, Irecv, Icoll}
+use Rattle.closing.specs.Fit.{starts_send}
 use Rattle.closing.specs.Steps.{Id, Own, Whole, ReceiveHalf, Written, Progress, number_in, has_number, least_free, without, without_all, numbers_of}
 use Rattle.closing.specs.inner.Free.{Requests, AreNumbered}
 use Rattle.mpicall.specs.declared.limits.TheConstants.{GREATEST_REQUEST}
@@ -27,10 +28,6 @@ start_call (start.Collective comm kind) number = Icoll number comm kind
 abbrev pub is_start_of_send : Start → Bool
 is_start_of_send (start.Send mode comm dest tag bytes) = true
 is_start_of_send it = false
-
-abbrev pub starts_send : Call → Bool
-starts_send (Isend number mode comm dest tag bytes) = true
-starts_send call = false
 
 -- no line names it
 abbrev pub IsUnnamed : Id → Type 0

@@ -4,7 +4,7 @@ use Rattle.std.specs.List.{AllZip, filter_map, flat_map, list_any}
 use Rattle.std.specs.HashSet.{contains_by}
 use Rattle.closing.specs.Keys.{Key, World, group_of_key, is_key_among}
 use Rattle.closing.specs.Entries.{Run, entries_at, ranks_of}
-use Rattle.closing.specs.inner.FitComms.{HasFitComms}
+use Rattle.closing.specs.FitComms.{HasFitComms}
 use Rattle.closing.specs.Made.{inferred_key}
 use Rattle.closing.specs.Numbers.{number_of, numbered_keys, preface_lines}
 use Rattle.closing.specs.inner.Given.{IsNumbered, or_none}

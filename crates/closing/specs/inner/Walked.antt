@@ -9,8 +9,8 @@ use Rattle.closing.specs.Called.{Called, ReceivesMatched, StartsMatched, Waits, 
 use Rattle.closing.specs.Entry.{Choice, id_of, is_of_send, passes_tests}
 use Rattle.closing.specs.Steps.{Id, Own, Whole, ReceiveHalf, Written, Progress, Step, Does, Starts, PutsOff, number_in, after_step, after_steps}
 use Rattle.closing.specs.Recording.{Outcome, GoesOn, Ends}
-use Rattle.closing.specs.Fit.{AllFit, steps_in}
-use Rattle.closing.specs.inner.Lists.{Stands, IsCut, ComesTo, starts_send}
+use Rattle.closing.specs.Fit.{AllFit, AllHaveKind, steps_in, waited}
+use Rattle.closing.specs.inner.Lists.{Stands, IsCut, ComesTo}
 use Rattle.closing.specs.Reported.{Message as Said, is_gone}
 use Rattle.closing.specs.inner.RequestReports.{AllStandFor, Tells}
 use Rattle.closing.specs.inner.Views.{called_view, message_view}
@@ -88,22 +88,6 @@ late_in (step ∷ steps) = late_in steps
 
 -- ---- Tests that are passed ----
 
--- a record that starts the request starts a send, or another request
-abbrev pub StartsKind : Bool → Id → Option Written → Type 0
-StartsKind is_send id None = Unit {0}
-StartsKind is_send id (Some it) = it.starts ≡ Some id → starts_send it.call ≡ is_send
-
--- what the list has of a request is what the journal says of it: that of a send, which is active, or another
-pub record HasKind (lines : List Line) (progress : Progress) (request : ℕ) : Type 0 where
-  pub active : is_of_send lines request ≡ true → is_some (number_in progress.active (id_of lines request)) ≡ true
-  pub starts : (place : ℕ) → StartsKind (is_of_send lines request) (id_of lines request) (slice_get progress.records place)
-
--- so it is of each of these that wasn't cancelled
-abbrev pub AllHaveKind : List Line → Progress → List ℕ → Type 0
-AllHaveKind lines progress [] = Unit {0}
-AllHaveKind lines progress (request ∷ requests) =
-    (is_gone lines request ≡ false → HasKind lines progress request) × AllHaveKind lines progress requests
-
 -- where tests are passed no call stands for what it started, and what is tested has its kind
 abbrev pub AllTestsFit : Choice → Spot → List ℕ → Progress → Type 0
 AllTestsFit choice spot requests progress =
@@ -146,15 +130,6 @@ LateWhere Holds outcome list old new =
     → map Own new ≡ map Own old ++ late_in (steps_in outcome)
 
 -- ---- An entry by its call ----
-
--- the requests that a wait or test names
-abbrev pub waited : Called → List ℕ
-waited (ReceivesMatched message) = message ∷ []
-waited (Waits requests) = requests
-waited (Tests requests) = requests
-waited (WaitsAny requests) = requests
-waited (WaitsSome requests) = requests
-waited it = []
 
 -- it is neither on a communicator nor makes one of a group
 abbrev pub is_on_none : Called → Bool

@@ -1,27 +1,88 @@
 //! Entries that wait, test or cancel.
 
-ghost use Rattle.std.specs.Prelude.{◌≡◌};
-ghost use Rattle.closing.specs.Entry.{passes_tests};
-ghost use Rattle.closing.specs.inner.RequestReports.{Tells};
-ghost use Rattle.closing.specs.inner.Walked.{Takes};
-ghost use Rattle.closing.specs.inner.Walks.{Spot, cancels_on};
+ghost use Rattle.std.specs.Prelude.{◌≡◌, ◌++◌, ◌==◌, ℕ, IfSome, OnOk, true, not, [], ◌∷◌, length, slice_get, if◌then◌else◌};
+ghost use Rattle.std.specs.List.{filter};
+ghost use Rattle.closing.specs.Called.{naturals_in};
+ghost use Rattle.closing.specs.Entry.{ids_of, passes_tests, unless_past, wait_for_one};
+ghost use Rattle.closing.specs.Recording.{GoesOn};
+ghost use Rattle.closing.specs.inner.Lists.{is_send_in};
+ghost use Rattle.closing.specs.inner.RequestReports.{AllStandFor, Tells};
+ghost use Rattle.closing.specs.inner.Standings.{id_in};
+ghost use Rattle.closing.specs.inner.Views.{called_view};
+ghost use Rattle.closing.specs.inner.Walked.{AllTestsFit, IsAt, LateCall, LateWhere, Meets, Takes, TakesCall, TakesWhere, choice_view, id_after, is_on_none};
+ghost use Rattle.closing.specs.inner.Walks.{Spot, cancels_on, tests_on, waits_any_on, waits_on, waits_some_on};
 
 use super::{At, Walk};
 use crate::called::Called;
 use crate::choice::{Calls, Tests};
+use crate::list::List;
 use crate::stop::Stop;
 use crate::why::Why;
 use journals::field::Field;
+use journals::lines::Lines;
+use std::alloc::AllocError;
+
+/// The first, if there is one.
+fn first_of(ids: &[u32]) -> Option<u32>
+    ensures { result ≡ slice_get ids.now 0 }
+{
+    ids.first().copied()
+}
+
+/// Adds a request to those of sends, or to the others.
+fn part_one(
+    is_send: bool,
+    id: u32,
+    sends: &mut Vec<u32>,
+    others: &mut Vec<u32>,
+) -> Result<(), AllocError>
+    ensures sends { OnOk result (sends.new.items ≡ sends.old.items ++ (if is_send then id ∷ [] else [])) }
+    ensures others { OnOk result (others.new.items ≡ others.old.items ++ (if not is_send then id ∷ [] else [])) }
+{
+    if is_send {
+        sends.push(id)?;
+    } else {
+        others.push(id)?;
+    }
+    Ok(())
+}
+
+/// Adds the requests of sends to some, and lists the others.
+fn part(
+    list: &List,
+    ids: &[u32],
+    sends: &mut Vec<u32>,
+    others: &mut Vec<u32>,
+) -> Result<(), AllocError>
+    ensures sends { OnOk result (sends.new.items ≡ sends.old.items ++ filter (is_send_in list.now) ids.now) }
+    ensures others { OnOk result (others.new.items ≡ filter (λ id. not (is_send_in list.now id)) ids.now) }
+{
+    others.clear();
+    for id in ids {
+        part_one(list.is_send(*id), *id, sends, others)?;
+    }
+    Ok(())
+}
 
 impl Walk {
     /// Puts the lines of an entry that is on no communicator.
-    pub(super) fn take_wait(&mut self, at: &At<'_>, it: &Called<'_>) -> Result<(), Stop> {
+    pub(super) fn take_wait(
+        &mut self,
+        lines: &Lines,
+        at: &At<'_>,
+        it: &Called<'_>,
+    ) -> Result<(), Stop>
+        ensures same { self.new ≡ record self.old { list = self.new.list; requests = self.new.requests; ids = self.new.ids; wanted = self.new.wanted; late = self.new.late } }
+        ensures outcomes { self.new.requests.outcomes ≡ self.old.requests.outcomes }
+        ensures ids { OnOk result ((request : ℕ) → id_in self.new.requests request ≡ id_after (called_view it.now) (id_in self.old.requests) request) }
+        ensures takes { (spot : Spot) → is_on_none (called_view it.now) ≡ true → Meets spot lines.now self.old.requests at.now it.now →
+            TakesCall (choice_view self.old.choice) spot (called_view it.now) result self.old.list self.new.list }
+        ensures late { OnOk result ((spot : Spot) → is_on_none (called_view it.now) ≡ true → Meets spot lines.now self.old.requests at.now it.now →
+            LateCall (choice_view self.old.choice) spot (called_view it.now) self.old.list self.old.late.items self.new.late.items) }
+    {
         match it {
             Called::ReceivesMatched(message) => self.waits(at, &[Field::Natural(*message)]),
-            Called::StartsMatched(request, message) => {
-                self.requests.take_matched(*request, *message)?;
-                Ok(())
-            }
+            Called::StartsMatched(request, message) => self.takes_matched(*request, *message),
             Called::Waits(requests) => self.waits(at, requests),
             Called::Tests(requests) => self.tests(at, requests),
             Called::WaitsAny(requests) => self.waits_any(at, requests),
@@ -31,7 +92,23 @@ impl Walk {
         }
     }
 
-    fn waits(&mut self, at: &At<'_>, requests: &[Field]) -> Result<(), Stop> {
+    /// A started matched receive stands for the message that it takes.
+    fn takes_matched(&mut self, request: u32, message: u32) -> Result<(), Stop>
+        ensures same { self.new ≡ record self.old { requests = self.new.requests } }
+        ensures outcomes { self.new.requests.outcomes ≡ self.old.requests.outcomes }
+        ensures ids { OnOk result ((other : ℕ) → id_in self.new.requests other ≡ (if request == other then message else id_in self.old.requests other)) }
+        ensures takes { (spot : Spot) → Takes spot (GoesOn []) result self.old.list self.new.list }
+    {
+        self.requests.take_matched(request, message)?;
+        Ok(())
+    }
+
+    fn waits(&mut self, at: &At<'_>, requests: &[Field]) -> Result<(), Stop>
+        ensures same { self.new ≡ record self.old { list = self.new.list; ids = self.new.ids } }
+        ensures takes { (spot : Spot) → IsAt spot at.now → Tells spot.lines self.old.requests.outcomes →
+            AllStandFor spot.lines self.old.requests (naturals_in requests.now) →
+            Takes spot (waits_on spot (naturals_in requests.now)) result self.old.list self.new.list }
+    {
         if at.is_past {
             return Ok(());
         }
@@ -46,46 +123,95 @@ impl Walk {
         self.choice.tests == Tests::Pass && self.choice.calls == Calls::Strict
     }
 
-    fn tests(&mut self, at: &At<'_>, requests: &[Field]) -> Result<(), Stop> {
-        if !self.passes_tests() {
-            return self.waits(at, requests);
+    fn tests(&mut self, at: &At<'_>, requests: &[Field]) -> Result<(), Stop>
+        ensures same { self.new ≡ record self.old { list = self.new.list; ids = self.new.ids; wanted = self.new.wanted; late = self.new.late } }
+        ensures takes { (spot : Spot) → IsAt spot at.now → Tells spot.lines self.old.requests.outcomes →
+            AllStandFor spot.lines self.old.requests (naturals_in requests.now) →
+            TakesWhere (AllTestsFit (choice_view self.old.choice) spot (naturals_in requests.now)) spot
+            (tests_on (choice_view self.old.choice) spot (naturals_in requests.now)) result self.old.list self.new.list }
+        ensures late { OnOk result ((spot : Spot) → Tells spot.lines self.old.requests.outcomes →
+            AllStandFor spot.lines self.old.requests (naturals_in requests.now) →
+            LateWhere (AllTestsFit (choice_view self.old.choice) spot (naturals_in requests.now))
+            (tests_on (choice_view self.old.choice) spot (naturals_in requests.now)) self.old.list self.old.late.items self.new.late.items) }
+    {
+        if self.passes_tests() {
+            return self.passes(requests);
         }
+        self.waits(at, requests)
+    }
+
+    /// Takes a test that is passed: the sends that it completed are waited for at the end.
+    fn passes(&mut self, requests: &[Field]) -> Result<(), Stop>
+        ensures same { self.new ≡ record self.old { list = self.new.list; ids = self.new.ids; wanted = self.new.wanted; late = self.new.late } }
+        ensures takes { (spot : Spot) → passes_tests self.old.choice.tests self.old.choice.calls ≡ true → Tells spot.lines self.old.requests.outcomes →
+            AllStandFor spot.lines self.old.requests (naturals_in requests.now) →
+            TakesWhere (AllTestsFit (choice_view self.old.choice) spot (naturals_in requests.now)) spot
+            (tests_on (choice_view self.old.choice) spot (naturals_in requests.now)) result self.old.list self.new.list }
+        ensures late { OnOk result ((spot : Spot) → passes_tests self.old.choice.tests self.old.choice.calls ≡ true → Tells spot.lines self.old.requests.outcomes →
+            AllStandFor spot.lines self.old.requests (naturals_in requests.now) →
+            LateWhere (AllTestsFit (choice_view self.old.choice) spot (naturals_in requests.now))
+            (tests_on (choice_view self.old.choice) spot (naturals_in requests.now)) self.old.list self.old.late.items self.new.late.items) }
+    {
         self.requests.find(requests, &mut self.ids)?;
-        self.split_late()?;
+        part(
+            &self.list,
+            self.ids.as_slice(),
+            &mut self.late,
+            &mut self.wanted,
+        )?;
         self.list.waits_for(self.wanted.as_slice())
     }
 
-    /// Puts off the sends among the requests of the entry; the others are wanted.
-    fn split_late(&mut self) -> Result<(), Stop> {
-        self.wanted.clear();
-        for id in &self.ids {
-            match self.list.active(*id) {
-                Some(active) if active.is_send => self.late.push(*id)?,
-                _ => self.wanted.push(*id)?,
-            }
-        }
-        Ok(())
-    }
-
-    fn waits_any(&mut self, at: &At<'_>, requests: &[Field]) -> Result<(), Stop> {
-        if requests.len() == 1 {
-            return self.waits(at, requests);
-        }
-        let Some(chosen) = at.chose else {
-            return Err(Stop::Left(Why::NeverCameBack));
-        };
+    /// Puts the wait for any of some requests, which completed those that were chosen.
+    fn waits_for_chosen(
+        &mut self,
+        at: &At<'_>,
+        chosen: &[Field],
+        requests: &[Field],
+    ) -> Result<(), Stop>
+        ensures same { self.new ≡ record self.old { list = self.new.list; ids = self.new.ids; wanted = self.new.wanted } }
+        ensures takes { (spot : Spot) → IsAt spot at.now → Tells spot.lines self.old.requests.outcomes →
+            AllStandFor spot.lines self.old.requests (naturals_in requests.now) →
+            AllStandFor spot.lines self.old.requests (naturals_in chosen.now) →
+            Takes spot (GoesOn (unless_past spot.is_past (wait_for_one (ids_of spot.lines (naturals_in chosen.now)) (ids_of spot.lines (naturals_in requests.now)))))
+            result self.old.list self.new.list }
+    {
         if at.is_past {
             return Ok(());
         }
         self.requests.find(chosen, &mut self.wanted)?;
         self.requests.find(requests, &mut self.ids)?;
-        match self.wanted.first() {
-            Some(wanted) => self.list.waits_for_one(*wanted, self.ids.as_slice()),
+        match first_of(self.wanted.as_slice()) {
+            Some(wanted) => self.list.waits_for_one(wanted, self.ids.as_slice()),
             None => Ok(()),
         }
     }
 
-    fn waits_some(&mut self, at: &At<'_>, requests: &[Field]) -> Result<(), Stop> {
+    fn waits_any(&mut self, at: &At<'_>, requests: &[Field]) -> Result<(), Stop>
+        ensures same { self.new ≡ record self.old { list = self.new.list; ids = self.new.ids; wanted = self.new.wanted } }
+        ensures takes { (spot : Spot) → IsAt spot at.now → Tells spot.lines self.old.requests.outcomes →
+            AllStandFor spot.lines self.old.requests (naturals_in requests.now) →
+            IfSome spot.chose (AllStandFor spot.lines self.old.requests) →
+            length (naturals_in requests.now) ≡ length requests.now →
+            Takes spot (waits_any_on spot (naturals_in requests.now)) result self.old.list self.new.list }
+    {
+        if requests.len() == 1 {
+            return self.waits(at, requests);
+        }
+        match at.chose {
+            Some(chosen) => self.waits_for_chosen(at, chosen, requests),
+            None => Err(Stop::Left(Why::NeverCameBack)),
+        }
+    }
+
+    fn waits_some(&mut self, at: &At<'_>, requests: &[Field]) -> Result<(), Stop>
+        ensures same { self.new ≡ record self.old { list = self.new.list; ids = self.new.ids } }
+        ensures takes { (spot : Spot) → IsAt spot at.now → Tells spot.lines self.old.requests.outcomes →
+            AllStandFor spot.lines self.old.requests (naturals_in requests.now) →
+            IfSome spot.chose (AllStandFor spot.lines self.old.requests) →
+            length (naturals_in requests.now) ≡ length requests.now →
+            Takes spot (waits_some_on spot (naturals_in requests.now)) result self.old.list self.new.list }
+    {
         if requests.len() == 1 {
             return self.waits(at, requests);
         }

@@ -1,0 +1,159 @@
+-- The list of a rank after its next entry, or its end, as callers see it.
+use Rattle.std.proofs.Common.{◌≡◌, ◌∙◌, refl, sym, ap, subst, arith, ℕ, zero, suc, ◌+◌, ◌<◌, ◌≤◌, Bool, true, false, List, [], ◌∷◌, ◌++◌, length, map, take, drop, length-append, Option, Some, None, option_map, Result, Ok, Err}
+use Rattle.std.specs.Prelude.{slice_get}
+use Rattle.std.proofs.lemmas.List.{length-map}
+use Rattle.mpicall.specs.declared.call.Call.{Call}
+use Rattle.mpicall.specs.declared.call.Call.TheVariants.{Finalize, Open}
+use Rattle.journals.specs.Journal.{Journal}
+use Rattle.journals.specs.Lines.{Line}
+use Rattle.journals.specs.Taking.{word_at}
+use Rattle.journals.specs.declared.word.CallWord.{CallWord}
+use Rattle.journals.specs.declared.word.ReportWord.{ReportWord}
+use Rattle.journals.specs.declared.word.Word.{Word}
+use Rattle.journals.specs.declared.word.Word.TheVariants.{Call as CallLine, Report}
+use Rattle.closing.specs.Entries.{Run, journal_at}
+use Rattle.closing.specs.Entry.{Choice}
+use Rattle.closing.specs.Recording.{Listed, GoesOn, cut, list_of, outcome_of, whole_list}
+use Rattle.closing.specs.Steps.{Progress, Step, after_steps}
+use Rattle.closing.specs.Table.{Table}
+use Rattle.closing.specs.inner.Holds.{HasComms}
+use Rattle.closing.specs.inner.Noted.{reports_in}
+use Rattle.closing.specs.inner.SoFar.{Entered, IsOn, IsPart, IsSoFar, IsWalk, StaysOn, comms_at, placed_here}
+use Rattle.closing.specs.declared.list.List.{List as ListCode}
+use Rattle.closing.specs.declared.stop.Stop.{Stop}
+use Rattle.closing.specs.declared.stop.Stop.TheVariants.{Left}
+use Rattle.closing.specs.declared.walk.Left.{Left as LeftAt}
+use Rattle.closing.specs.declared.walk.Walk.{Walk}
+use Rattle.closing.specs.declared.why.Why.{Why}
+use Rattle.closing.proofs.LastLemmas.{drop_none}
+use Rattle.closing.proofs.LineLemmas.{IsEnded}
+use Rattle.closing.proofs.PlacedLemmas.{no_report_there}
+use Rattle.closing.proofs.WalkLemmas.{IsNext, ended_open, entry_ends, entry_goes_on, entry_leaves, left_as, part_of_ended, part_of_on}
+
+true_false : (b : Bool) → b ≡ true → b ≡ false → ⊥
+true_false true one other = cc (other)
+true_false false one other = cc (one)
+
+-- how far the list of a rank with this journal came
+pub so_far_at : (run : Run) (choice : Choice) (journal : Journal) (table : Table) (old : Walk) → IsWalk run choice table old → old.is_over ≡ false → journal_at run old.rank ≡ Some journal
+    → IsSoFar run choice journal table old
+so_far_at run choice journal table old walk goes there =
+    let on = walk.on goes in
+    let same : on.journal ≡ journal = cc (there, on.there) in
+    subst (λ (one : Journal). IsSoFar run choice one table old) same on.so_far
+
+-- a line that isn't there
+pub none_left : (lines : List Line) (n : ℕ) → word_at lines n ≡ None → drop n lines ≡ []
+none_left lines n e = by_line (slice_get lines n) refl
+  where
+    by_line : (it : Option Line) → slice_get lines n ≡ it → drop n lines ≡ []
+    by_line None at = drop_none lines n at
+    by_line (Some line) at = let some = rw at at e in absurd (cc (some))
+
+module _ (run : Run) (choice : Choice) (journal : Journal) (table : Table) (old : Walk) (so_far : IsSoFar run choice journal table old) (there : journal_at run old.rank ≡ Some journal) where
+  -- as many records are made as were handed on and weren't
+  pub count_is : length so_far.progress.records ≡ old.handed + length old.list.records.items
+  count_is =
+      let all : length so_far.progress.records ≡ length so_far.handed + length old.list.records.items =
+      sym (length-map so_far.progress.records (λ it. it.call)) ∙ ap length so_far.stands.records ∙ length-append so_far.handed old.list.records.items in
+      omega (arith, all, so_far.count)
+
+  -- what is known of a list that has ended
+  pub record HasEnded (line : ℕ) (items : List Call) (why : Option Why) (new : Walk) : Type 0 where
+    pub rank : new.rank ≡ old.rank
+    pub handed : new.handed ≡ old.handed
+    pub before : new.before ≡ old.handed + length old.list.records.items
+    pub line_is : new.line ≡ line
+    pub items_are : new.list.records.items ≡ items
+    pub left : new.left ≡ left_as line why
+    pub over : new.is_over ≡ true
+
+  pub ended_walk : (now : Table) (line : ℕ) (items : List Call) (why : Option Why) (new : Walk) → HasEnded line items why new
+      → IsEnded (cut (whole_list run choice old.rank)) so_far.handed items (old.handed + length old.list.records.items) line why → IsWalk run choice now new
+  ended_walk now line items why new is ended =
+      let here : IsEnded (cut (whole_list run choice old.rank)) so_far.handed items new.before new.line why = rw (is.before, is.line_is) ended in
+      let left : new.left ≡ left_as new.line why = is.left ∙ ap (λ n. left_as n why) (sym is.line_is) in
+      let part = part_of_ended run choice old.rank journal so_far.handed items why new there here is.items_are (so_far.count ∙ sym is.handed) left in
+      record {
+        part = subst (λ (rank : ℕ). IsPart (list_of run choice rank) new) (sym is.rank) part;
+        on = λ goes. absurd (true_false new.is_over is.over goes);
+      }
+
+  -- where no call line is left it ends open
+  pub opened_walk : (new : Walk) → ((word : CallWord) → word_at journal.lines old.next ≡ Some (CallLine word) → ⊥) → HasEnded 0 (old.list.records.items ++ Open ∷ []) None new
+      → IsWalk run choice table new
+  opened_walk new none is = ended_walk table 0 (old.list.records.items ++ Open ∷ []) None new is ended
+    where
+      no_word : (it : Option Word) → word_at journal.lines old.next ≡ it → word_at journal.lines old.next ≡ None
+      no_word None at = at
+      no_word (Some (CallLine word)) at = absurd (none word at)
+      no_word (Some (Report word)) at = absurd (no_report_there journal.lines old.next word so_far.at_call at)
+
+      ended : IsEnded (cut (whole_list run choice old.rank)) so_far.handed (old.list.records.items ++ Open ∷ []) (old.handed + length old.list.records.items) 0 None
+      ended =
+          ended_open run choice journal table old (old.handed + length old.list.records.items) so_far
+          (none_left journal.lines old.next (no_word (word_at journal.lines old.next) refl)) (omega (arith, count_is))
+
+  -- ---- The next entry ----
+
+  module _ (word : CallWord) (call : word_at journal.lines old.next ≡ Some (CallLine word)) where
+    abbrev after : ℕ
+    after = old.next + 1 + length (reports_in (drop (old.next + 1) journal.lines))
+
+    abbrev before : ℕ
+    before = old.handed + length old.list.records.items
+
+    -- the rank's last call
+    pub final_walk : (now : Table) (list : ListCode) (new : Walk) → Entered (Ok true) (outcome_of run choice (placed_here old.rank journal old.next word)) so_far.handed so_far.progress (old.next + 2) list
+        → HasEnded (old.next + 2) (list.records.items ++ Finalize ∷ []) None new → IsWalk run choice now new
+    final_walk now list new entered is =
+        ended_walk now (old.next + 2) (list.records.items ++ Finalize ∷ []) None new is
+        (entry_ends run choice journal table now old new word so_far call before list (omega (arith, count_is)) entered)
+
+    -- one at which the list is left
+    pub broken_walk : (now : Table) (list : ListCode) (why : Why) (new : Walk)
+        → Entered (Err (Left why)) (outcome_of run choice (placed_here old.rank journal old.next word)) so_far.handed so_far.progress (old.next + 2) list
+        → HasEnded (old.next + 2) (list.records.items ++ Open ∷ []) (Some why) new → IsWalk run choice now new
+    broken_walk now list why new entered is =
+        ended_walk now (old.next + 2) (list.records.items ++ Open ∷ []) (Some why) new is
+        (entry_leaves run choice journal table now old new word so_far call before list why (omega (arith, count_is)) entered)
+
+    -- what else is known of a list that goes on
+    pub record HasNext (new : Walk) : Type 0 where
+      pub rank : new.rank ≡ old.rank
+      pub next : new.next ≡ after
+      pub handed : new.handed ≡ old.handed
+      pub line_is : new.line ≡ old.next + 2
+      pub before_is : new.before ≡ before
+      pub left : new.left ≡ old.left
+      pub last : new.last ≡ old.last
+      pub outcomes : new.requests.outcomes ≡ old.requests.outcomes
+      pub goes : new.is_over ≡ false
+
+    pub next_walk : (now : Table) (new : Walk) → Entered (Ok false) (outcome_of run choice (placed_here old.rank journal old.next word)) so_far.handed so_far.progress (old.next + 2) new.list
+        → ((steps : List Step) → outcome_of run choice (placed_here old.rank journal old.next word) ≡ GoesOn steps
+        → StaysOn now journal.lines after (after_steps so_far.progress (old.next + 2) steps).late new) → HasNext new → IsWalk run choice now new
+    next_walk now new entered stays is = record {
+      part = part_of_on run choice now new on is.goes;
+      on = λ goes. on;
+    }
+      where
+        is_next : (steps : List Step) → StaysOn now journal.lines after (after_steps so_far.progress (old.next + 2) steps).late new
+            → IsNext run choice journal table now old new word so_far call (old.next + 2) before steps
+        is_next steps stay = record {
+          rank = is.rank;
+          next = is.next;
+          handed = is.handed;
+          line_is = is.line_is;
+          before_is = is.before_is;
+          left = is.left ∙ so_far.left;
+          last = is.last;
+          outcomes = is.outcomes;
+          late = stay.late_is;
+          comms = subst (λ (rank : ℕ). HasComms now new.comms (comms_at rank journal.lines after)) is.rank stay.comms;
+          requests = stay.requests;
+        }
+
+        on : IsOn run choice now new
+        on = entry_goes_on run choice journal table now old new word so_far call before (omega (arith, count_is)) entered
+            (λ steps e. is_next steps (stays steps e)) there
