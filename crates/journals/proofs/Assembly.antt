@@ -12,7 +12,8 @@ use Rattle.journals.specs.Taking.{fields_at}
 use Rattle.journals.specs.inner.Last.{new_last, with_report}
 use Rattle.journals.specs.inner.Marks.{ranks_in}
 use Rattle.journals.specs.inner.Naturals.{AreNatural}
-use Rattle.journals.specs.inner.Notes.{Notes, IsFault, note_at, noted, may_use, may_call, by_call, may_report, by_report}
+use Rattle.journals.specs.inner.Notes.{IsFault, note_at, noted, may_use, may_call, by_call, may_report, by_report}
+use Rattle.journals.specs.declared.note_table.Notes.{Notes}
 use Rattle.journals.specs.inner.Knows.{Comms, Answers, IsRead, IsNext, IsLast, NoteIs, CommIs, Knows, owner_of, is_known, wrong_comm, is_right_call, may_follow_last, names_unfit_by, is_unfit, chosen_by, noted_last, is_right_report, brings, brought_in, comms_with}
 use Rattle.journals.specs.declared.field.Field.{Field}
 use Rattle.journals.specs.declared.form.Form.{Form}

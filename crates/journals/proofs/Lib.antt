@@ -8,6 +8,7 @@ pub mod PushLemmas
 pub mod PackingLemmas
 mod Rows
 pub mod NoteSteps
+pub mod NoteTable
 pub mod Tests
 pub mod GroupLemmas
 pub mod EntryLemmas
@@ -24,3 +25,6 @@ pub mod Assembly
 pub mod JournalLemmas
 pub mod ReadLines
 pub mod PassLemmas
+pub mod WordLemmas
+pub mod PlaceLemmas
+pub mod WholePush

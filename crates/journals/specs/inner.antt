@@ -3,6 +3,7 @@ pub mod LineWindow
 pub mod Reader
 pub mod Forms
 pub mod Packing
+pub mod Places
 pub mod Taking
 pub mod Naturals
 pub mod Marks

@@ -9,6 +9,7 @@ ghost use Rattle.journals.specs.Words.{forms_of};
 ghost use Rattle.journals.specs.Entries.{is_comm, is_new_comm};
 ghost use Rattle.journals.specs.inner.Naturals.{naturals, AreNatural};
 ghost use Rattle.journals.specs.inner.Numbered.{numbered, numbered_from};
+ghost use Rattle.journals.specs.inner.Places.{call_comm_place, comm_place};
 ghost use Rattle.journals.specs.inner.Knows.{is_known, wrong_comm, group_fields, group_at, rest_of, first_natural, second_natural};
 
 use crate::field::Field;
@@ -36,20 +37,83 @@ fn is_wrong(comms: &HashMap<u32, u32>, form: Form, comm: u32) -> bool
     }
 }
 
-/// Whether the communicators that a line names are known, and those that it brings aren't.
-#[tactic(auto, using(crate::proofs::NoteSteps::none_numbered_left))]
+/// The place of the field by which a call line names a communicator, if it has one.
+fn call_comm_place(word: CallWord) -> Option<usize>
+    ensures { result ≡ call_comm_place word }
+{
+    match word {
+        CallWord::Init
+        | CallWord::Finalize
+        | CallWord::Abort
+        | CallWord::Exit
+        | CallWord::Full
+        | CallWord::Stopped
+        | CallWord::Mrecv
+        | CallWord::Imrecv
+        | CallWord::Wait
+        | CallWord::Test
+        | CallWord::Waitany
+        | CallWord::Waitsome
+        | CallWord::Cancel
+        | CallWord::RequestFree
+        | CallWord::CommCreateGroup => None,
+        CallWord::Isendrecv => Some(2),
+        CallWord::Isend
+        | CallWord::Issend
+        | CallWord::Ibsend
+        | CallWord::Irsend
+        | CallWord::Irecv
+        | CallWord::Mprobe
+        | CallWord::Improbe
+        | CallWord::Ibarrier
+        | CallWord::Ibcast
+        | CallWord::Igather
+        | CallWord::Iscatter
+        | CallWord::Ireduce
+        | CallWord::Iallgather
+        | CallWord::Ialltoall
+        | CallWord::Iallreduce
+        | CallWord::Iscan
+        | CallWord::Iexscan
+        | CallWord::CommIdup => Some(1),
+        _ => Some(0),
+    }
+}
+
+/// The place of the only field by which a line names or brings a communicator, if it has one.
+fn comm_place(word: Word) -> Option<usize>
+    ensures { result ≡ comm_place word }
+{
+    match word {
+        Word::Call(word) => call_comm_place(word),
+        Word::Report(ReportWord::Comm | ReportWord::Idup | ReportWord::Apart) => Some(0),
+        Word::Report(_) => None,
+    }
+}
+
+/// Whether the number at a place is that of a communicator that is known and must not be, or isn't and must be.
+fn is_wrong_at(comms: &HashMap<u32, u32>, word: Word, fields: &[Field], place: usize) -> bool
+    requires fits { length (forms_of word (length fields.now)) ≡ length fields.now }
+    requires within { place < length fields.now }
+    ensures { wrong_comm (is_known comms.now) (numbered_from word fields.now place)
+        ≡ (result || wrong_comm (is_known comms.now) (numbered_from word fields.now (place + 1))) }
+{
+    match number_at(word, fields, place) {
+        Some((form, comm)) => is_wrong(comms, form, comm),
+        None => false,
+    }
+}
+
+/// Whether the communicator that a line names is known, and that which it brings isn't.
+#[tactic(auto, using(crate::proofs::PlaceLemmas::no_comm, crate::proofs::PlaceLemmas::only_comm, crate::proofs::PlaceLemmas::past_comm, crate::proofs::PlaceLemmas::few_comm))]
 pub(crate) fn knows_comms(comms: &HashMap<u32, u32>, word: Word, fields: &[Field]) -> bool
     requires { length (forms_of word (length fields.now)) ≡ length fields.now }
     ensures { result ≡ not (wrong_comm (is_known comms.now) (numbered word fields.now)) }
 {
-    for place in 0..fields.len() {
-        if let Some((form, comm)) = number_at(word, fields, place) {
-            if is_wrong(comms, form, comm) {
-                return false;
-            }
-        }
+    match comm_place(word) {
+        Some(place) if place < fields.len() => !is_wrong_at(comms, word, fields, place),
+        _ => true,
     }
-    true
 }
 
 /// The fields of the group that a line has.

@@ -29,6 +29,7 @@ use crate::last::{LastCall, may_be_anywhere};
 use crate::line::LineFault;
 use crate::lines::{Lines, Taken};
 use crate::note::Note;
+use crate::note_table::Notes;
 use crate::notes::{CallLine, ReportLine, note_call, note_report, number_at, undo_all};
 use crate::word::{CallWord, ReportWord, Word};
 use std::alloc::{AllocError, Global};
@@ -38,7 +39,7 @@ use std::collections::HashMap;
 #[derive(Drop)]
 pub(crate) struct Known {
     rank: u32,
-    notes: HashMap<u32, Note>,
+    notes: Notes,
     /// The lines that report communicators.
     comms: HashMap<u32, u32>,
     marks: Marks,
@@ -132,7 +133,7 @@ impl Known {
     {
         Ok(Known {
             rank,
-            notes: HashMap::new(alloc),
+            notes: Notes::new(alloc),
             comms: HashMap::new(alloc),
             marks: Marks::new(alloc, ranks)?,
             last: None,
@@ -237,7 +238,7 @@ impl Known {
     {
         for place in 0..fields.len() {
             if let Some((form, number)) = number_at(Word::Report(word), fields, place) {
-                if is_request(form) && is_unfit(self.last, word, self.notes.get(&number).copied()) {
+                if is_request(form) && is_unfit(self.last, word, self.notes.get(number)) {
                     return true;
                 }
             }
@@ -310,7 +311,7 @@ impl Known {
     fn duplicated_by(&self, request: Option<u32>) -> Option<u32>
         ensures { result ≡ duplicated_by self.now request }
     {
-        self.notes.get(&request?)?.parent
+        self.notes.get(request?)?.parent
     }
 
     /// Whether the group of the communicator that a report brings is right.

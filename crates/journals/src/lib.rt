@@ -45,6 +45,7 @@ mod line;
 mod line_window;
 pub mod lines;
 mod note;
+mod note_table;
 mod notes;
 mod reader;
 pub mod text;

@@ -1,14 +1,14 @@
 //! What a line says: its word and its fields.
 //!
-//! A line is cut at single spaces twice: first to count its fields and to find a site, which decide whether
-//! the word can have so many, and then to read each by its form, straight to the end of the list of all
-//! fields.
+//! A line's fields are read one after another by the forms of its word, straight to the end of the list of all
+//! fields. Where one doesn't fit, they are read again, part by part: how many there are and whether there is a site
+//! decide whether the word can have so many, and which fault is the first.
 
-ghost use Rattle.std.specs.Prelude.{◌≡◌, ◌≤◌, ◌<◌, ◌-◌, ◌&&◌, true, if◌then◌else◌, length};
+ghost use Rattle.std.specs.Prelude.{◌≡◌, ◌==◌, ◌≤◌, ◌<◌, ◌-◌, ◌&&◌, [], Some, true, if◌then◌else◌, length};
 ghost use Rattle.std.specs.Option.{option_copied};
 ghost use Rattle.journals.specs.Words.{forms_of, is_call};
 ghost use Rattle.journals.specs.Lines.{begins_with_at, last_field, is_site, fields_of, line_of};
-ghost use Rattle.journals.specs.inner.Taking.{fields_after_word, is_stopped, line_after_word, PutsFields, ReadsLine};
+ghost use Rattle.journals.specs.inner.Taking.{fields_after_word, is_stopped, line_after_word, PutsAll, PutsFields, ReadsLine};
 ghost use Rattle.journals.specs.declared.line.LineFault.TheVariants.{Memory};
 
 use crate::fault::JournalFaultKind;
@@ -147,8 +147,9 @@ fn push_fields(
     Ok(())
 }
 
-/// Reads the fields after a word, and puts them at the end of a list; answers the word.
-fn push_after_word(
+/// Reads the fields after a word part by part, so that the first fault is found, and puts them at the end of a list;
+/// answers the word.
+fn push_by_parts(
     ranks: u32,
     word: Word,
     line: &[u8],
@@ -174,6 +175,86 @@ fn push_after_word(
     }
 }
 
+fn is_call(word: Word) -> bool
+    ensures { result ≡ is_call word }
+{
+    matches!(word, Word::Call(_))
+}
+
+fn begins_with_at(text: &[u8]) -> bool
+    ensures { result ≡ begins_with_at (Some text.now) }
+{
+    match text {
+        [first, ..] => *first == b'@',
+        [] => false,
+    }
+}
+
+/// Whether a text that begins as a site does is that of a call line with so many fields before it, and none after it.
+fn ends_line(word: Word, place: usize, text: &[u8], mut rest: Fields<'_>) -> bool
+    ensures over { result ≡ true → rest.entry ≡ [] }
+    ensures call { result ≡ true → is_call word ≡ true }
+    ensures takes { result ≡ true → (length (forms_of word place) == place) ≡ true }
+    ensures site { result ≡ true → is_site (Some text.now) ≡ true }
+{
+    if rest.next_field().is_some() {
+        return false;
+    }
+    is_call(word) && takes_count(word, place) && is_site(Some(text))
+}
+
+/// Reads all fields after a word by its forms, one after another, and puts them at the end of a list; says whether they
+/// are those of a line. Else there may be any more fields in the list.
+fn push_all(
+    ranks: u32,
+    word: Word,
+    mut fields: Fields<'_>,
+    into: &mut Vec<Field>,
+) -> Result<bool, LineFault>
+    requires some { 1 ≤ ranks }
+    requires short { length fields ≤ MOST_LINE_BYTES }
+    ensures { PutsAll ranks word fields.entry into.old.items into.new.items result }
+{
+    let mut place = 0;
+    while let Some(text) = fields.next_field() {
+        if begins_with_at(text) {
+            return Ok(ends_line(word, place, text, fields));
+        }
+        let Some(form) = form_at(word, place) else {
+            return Ok(false);
+        };
+        let Some(it) = read_field(ranks, form, text) else {
+            return Ok(false);
+        };
+        into.push(it)?;
+        place += 1;
+    }
+    Ok(takes_count(word, place))
+}
+
+/// Reads the fields after the word of a line, and puts them at the end of a list; answers the word.
+fn push_after_word(
+    ranks: u32,
+    word: Word,
+    line: &[u8],
+    fields: Fields<'_>,
+    into: &mut Vec<Field>,
+) -> Result<Word, LineFault>
+    requires some { 1 ≤ ranks }
+    requires short { length line.now < MOST_LINE_BYTES }
+    requires few { length fields ≤ MOST_LINE_BYTES }
+    requires after { fields ≡ fields_after_word line.now }
+    ensures { ReadsLine (line_after_word ranks word (fields_after_word line.now))
+        into.old.items into.new.items result }
+{
+    let start = into.len();
+    if push_all(ranks, word, fields, into)? {
+        return Ok(word);
+    }
+    into.truncate(start);
+    push_by_parts(ranks, word, line, into)
+}
+
 /// Whether what follows a word says nothing.
 fn is_stopped(word: Word) -> bool
     ensures { result ≡ is_stopped word }
@@ -188,7 +269,8 @@ pub(crate) fn read_line(ranks: u32, line: &[u8], into: &mut Vec<Field>) -> Resul
     requires short { length line.now < MOST_LINE_BYTES }
     ensures { ReadsLine (line_of ranks line.now) into.old.items into.new.items result }
 {
-    let Some(text) = Fields::of(line).next_field() else {
+    let mut fields = Fields::of(line);
+    let Some(text) = fields.next_field() else {
         return Err(LineFault::Journal(JournalFaultKind::UnknownWord));
     };
     let Some(word) = word_of(text) else {
@@ -197,5 +279,5 @@ pub(crate) fn read_line(ranks: u32, line: &[u8], into: &mut Vec<Field>) -> Resul
     if is_stopped(word) {
         return Ok(word);
     }
-    push_after_word(ranks, word, line, into)
+    push_after_word(ranks, word, line, fields, into)
 }

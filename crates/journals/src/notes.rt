@@ -3,13 +3,14 @@
 //! A call line and a report use their numbers one after another: each is checked by its note so far, and then
 //! noted. A number that is used twice in one line is found by that.
 
-ghost use Rattle.std.specs.Prelude.{◌≡◌, ◌<◌, ◌==◌, ◌+◌, true, false, ℕ, length, if◌then◌else◌, OnOk, IfErr};
+ghost use Rattle.std.specs.Prelude.{◌≡◌, ◌≤◌, ◌<◌, ◌==◌, ◌+◌, true, false, ℕ, length, if◌then◌else◌, OnOk, IfErr};
 ghost use Rattle.std.specs.List.{cons_option};
 ghost use Rattle.journals.specs.Words.{forms_of};
 ghost use Rattle.journals.specs.Entries.{is_of_request};
 ghost use Rattle.journals.specs.inner.Naturals.{naturals};
 ghost use Rattle.journals.specs.Known.{is_among};
 ghost use Rattle.journals.specs.inner.Numbered.{number_of, numbered, numbered_from};
+ghost use Rattle.journals.specs.inner.Places.{looked_at, requests_first};
 ghost use Rattle.journals.specs.inner.Notes.{note_at, may_use, noted, may_call, by_call, may_report, by_report, undone_at, IsFault};
 ghost use Rattle.journals.specs.declared.word.Word.TheVariants.{Call, Report};
 ghost use Rattle.journals.specs.declared.fault.JournalFaultKind.TheVariants.{Request};
@@ -19,8 +20,8 @@ use crate::field::Field;
 use crate::form::{Form, form_at};
 use crate::line::LineFault;
 use crate::note::Note;
+use crate::note_table::Notes;
 use crate::word::{CallWord, ReportWord, Word};
-use std::collections::HashMap;
 
 /// A call line: its word and its fields, and its place among all lines.
 #[derive(Clone, Copy)]
@@ -103,7 +104,7 @@ fn by_call(call: CallLine<'_>, form: Form, number: u32, note: Option<Note>) -> O
 
 /// Notes what a call line says of one number.
 fn use_in_call(
-    notes: &mut HashMap<u32, Note>,
+    notes: &mut Notes,
     call: CallLine<'_>,
     form: Form,
     number: u32,
@@ -118,19 +119,62 @@ fn use_in_call(
     ensures fault { IfErr result (IsFault Request
         (may_call call.entry.line form (note_at notes.old number) ≡ false)) }
 {
-    let note = notes.get(&number).copied();
+    let note = notes.get(number);
     if !may_call(call.line, form, note) {
         return Err(LineFault::Journal(JournalFaultKind::Request));
     }
     if let Some(note) = by_call(call, form, number, note) {
-        notes.insert(number, note)?;
+        notes.put(number, note)?;
     }
     Ok(())
 }
 
+/// How many of the first fields of a call line may be requests or messages; None where all may.
+fn requests_first(word: CallWord) -> Option<usize>
+    ensures { result ≡ requests_first word }
+{
+    match word {
+        CallWord::Wait | CallWord::Test | CallWord::Waitany | CallWord::Waitsome => None,
+        CallWord::Isendrecv | CallWord::Imrecv => Some(2),
+        CallWord::Isend
+        | CallWord::Issend
+        | CallWord::Ibsend
+        | CallWord::Irsend
+        | CallWord::Irecv
+        | CallWord::Mprobe
+        | CallWord::Improbe
+        | CallWord::Mrecv
+        | CallWord::Cancel
+        | CallWord::RequestFree
+        | CallWord::Ibarrier
+        | CallWord::Ibcast
+        | CallWord::Igather
+        | CallWord::Iscatter
+        | CallWord::Ireduce
+        | CallWord::Iallgather
+        | CallWord::Ialltoall
+        | CallWord::Iallreduce
+        | CallWord::Iscan
+        | CallWord::Iexscan
+        | CallWord::CommIdup => Some(1),
+        _ => Some(0),
+    }
+}
+
+/// How many of the first fields are looked at: none after them is a request or a message.
+fn looked_at(word: CallWord, count: usize) -> usize
+    ensures value { result ≡ looked_at (requests_first word) count }
+    ensures within { result ≤ count }
+{
+    match requests_first(word) {
+        Some(first) => first.min(count),
+        None => count,
+    }
+}
+
 /// Notes what a call line says of its requests and messages.
 #[tactic(auto, using(crate::proofs::NoteSteps::none_numbered_left))]
-pub(crate) fn note_call(notes: &mut HashMap<u32, Note>, call: CallLine<'_>) -> Result<(), LineFault>
+pub(crate) fn note_call(notes: &mut Notes, call: CallLine<'_>) -> Result<(), LineFault>
     requires { length (forms_of (Call call.word) (length call.fields.now)) ≡ length call.fields.now }
     ensures ok { OnOk result (may_use (may_call call.entry.line)
         (by_call call.entry.word call.entry.fields.now call.entry.line)
@@ -143,7 +187,7 @@ pub(crate) fn note_call(notes: &mut HashMap<u32, Note>, call: CallLine<'_>) -> R
         (may_use (may_call call.entry.line) (by_call call.entry.word call.entry.fields.now call.entry.line)
         (note_at notes.old) (numbered (Call call.entry.word) call.entry.fields.now) ≡ false)) }
 {
-    for place in 0..call.fields.len() {
+    for place in 0..looked_at(call.word, call.fields.len()) {
         if let Some((form, number)) = number_at(Word::Call(call.word), call.fields, place) {
             if is_of_request(form) {
                 use_in_call(notes, call, form, number)?;
@@ -155,7 +199,7 @@ pub(crate) fn note_call(notes: &mut HashMap<u32, Note>, call: CallLine<'_>) -> R
 
 /// Notes what a report says of one number; says whether it may.
 fn use_in_report(
-    notes: &mut HashMap<u32, Note>,
+    notes: &mut Notes,
     report: ReportLine<'_>,
     form: Form,
     number: u32,
@@ -173,23 +217,20 @@ fn use_in_report(
     let Form::Request = form else {
         return Err(LineFault::Journal(JournalFaultKind::Request));
     };
-    let Some(note) = notes.get(&number).copied() else {
+    let Some(note) = notes.get(number) else {
         return Err(LineFault::Journal(JournalFaultKind::Request));
     };
     if note.is_message || note.is_reported(report.line) {
         return Err(LineFault::Journal(JournalFaultKind::Request));
     }
     let note = note.when_reported(report.word, report.line, report.completed);
-    notes.insert(number, note)?;
+    notes.put(number, note)?;
     Ok(())
 }
 
 /// Notes what a report says of the requests that it names.
 #[tactic(auto, using(crate::proofs::NoteSteps::none_numbered_left))]
-pub(crate) fn note_report(
-    notes: &mut HashMap<u32, Note>,
-    report: ReportLine<'_>,
-) -> Result<(), LineFault>
+pub(crate) fn note_report(notes: &mut Notes, report: ReportLine<'_>) -> Result<(), LineFault>
     requires { length (forms_of (Report report.word) (length report.fields.now)) ≡ length report.fields.now }
     ensures ok { OnOk result (may_use (may_report report.entry.line)
         (by_report report.entry.word report.entry.line report.entry.completed)
@@ -214,23 +255,19 @@ pub(crate) fn note_report(
 }
 
 /// Takes back what the call line completed of one number.
-fn undo(notes: &mut HashMap<u32, Note>, line: u32, number: u32) -> Result<(), LineFault>
+fn undo(notes: &mut Notes, line: u32, number: u32) -> Result<(), LineFault>
     ensures notes { OnOk result ((other : ℕ) → note_at notes.new other
         ≡ (if number == other then undone_at line (note_at notes.old number) else note_at notes.old other)) }
     ensures fault { IfErr result (IsFault Request ⊥) }
 {
-    if let Some(note) = notes.get(&number).copied() {
-        notes.insert(number, note.when_undone(line))?;
+    if let Some(note) = notes.get(number) {
+        notes.put(number, note.when_undone(line))?;
     }
     Ok(())
 }
 
 /// Takes back what the call of a line completed, which has these fields.
-pub(crate) fn undo_all(
-    notes: &mut HashMap<u32, Note>,
-    line: u32,
-    mut fields: &[Field],
-) -> Result<(), LineFault>
+pub(crate) fn undo_all(notes: &mut Notes, line: u32, mut fields: &[Field]) -> Result<(), LineFault>
     ensures notes { OnOk result ((other : ℕ) → note_at notes.new other
         ≡ (if is_among other (naturals fields.entry.now)
         then undone_at line (note_at notes.old other)

@@ -4,6 +4,7 @@
 
 ghost use Rattle.std.specs.Prelude.{◌≡◌, map};
 ghost use Rattle.journals.specs.Words.{word_in, call_word_of, report_word_of, word_of};
+ghost use Rattle.journals.specs.inner.Places.{begins_report};
 
 /// The word of a call line: what the rank called.
 #[derive(Clone, Copy, PartialEq, Eq)]
@@ -214,16 +215,29 @@ fn report_word_of(field: &[u8]) -> Option<ReportWord>
     report_in(&REPORTS, field)
 }
 
+/// Whether a field begins as the text of a report word does, and that of no call word.
+fn begins_report(field: &[u8]) -> bool
+    ensures { result ≡ begins_report field.now }
+{
+    match field {
+        [first, ..] => *first == b'=',
+        [] => false,
+    }
+}
+
 /// The word that a field spells, if there is one.
-#[tactic(auto, unfolding(crate::specs::Words::word_of))]
+#[tactic(auto, using(crate::proofs::WordLemmas::report_alone, crate::proofs::WordLemmas::call_alone))]
 pub fn word_of(field: &[u8]) -> Option<Word>
     ensures { result ≡ word_of field.now }
 {
-    if let Some(word) = call_word_of(field) {
-        return Some(Word::Call(word));
+    if begins_report(field) {
+        return match report_word_of(field) {
+            Some(word) => Some(Word::Report(word)),
+            None => None,
+        };
     }
-    match report_word_of(field) {
-        Some(word) => Some(Word::Report(word)),
+    match call_word_of(field) {
+        Some(word) => Some(Word::Call(word)),
         None => None,
     }
 }

@@ -1,8 +1,6 @@
 -- What is noted of requests and messages, and how the fields of a line change it.
-use Rattle.std.specs.Prelude.{◌≡◌, ℕ, Bool, true, false, ◌&&◌, ◌||◌, not, ◌==◌, nat_eq, Option, Some, None, is_none, option_map, ⊤, if◌then◌else◌, List, [], ◌∷◌}
-use Rattle.std.specs.HashMap.{get, HashMap}
-use Rattle.std.specs.declared.hash.FoldHasher.{FoldHasher}
-use Rattle.std.specs.declared.hash.BuildHasherDefault.{BuildHasherDefault}
+use Rattle.std.specs.Prelude.{◌≡◌, ℕ, Bool, true, false, ◌&&◌, ◌||◌, not, ◌==◌, nat_eq, Option, Some, None, is_none, option_map, ⊤, if◌then◌else◌, List, [], ◌∷◌, slice_get}
+use Rattle.std.specs.HashMap.{get}
 use Rattle.journals.specs.Entries.{is_of_request}
 use Rattle.journals.specs.Known.{is_cancel, is_outcome, is_report, receive_in, is_wildcard, duplicated_in}
 use Rattle.journals.specs.inner.Last.{completes_all}
@@ -10,6 +8,7 @@ use Rattle.journals.specs.declared.field.Field.{Field}
 use Rattle.journals.specs.declared.form.Form.{Form}
 use Rattle.journals.specs.declared.form.Form.TheVariants.{NewRequest, NewMessage, Request, Message}
 use Rattle.journals.specs.declared.note.Note.{Note}
+use Rattle.journals.specs.declared.note_table.Notes.{Notes}
 use Rattle.journals.specs.declared.fault.JournalFaultKind.{JournalFaultKind}
 use Rattle.journals.specs.declared.line.LineFault.{LineFault}
 use Rattle.journals.specs.declared.line.LineFault.TheVariants.{Journal, Memory}
@@ -18,11 +17,13 @@ use Rattle.journals.specs.declared.word.ReportWord.{ReportWord}
 use Rattle.journals.specs.declared.word.ReportWord.TheVariants as report
 use Rattle.journals.specs.declared.word.Word.TheVariants.{Call, Report}
 
-abbrev pub Notes : Type 0
-Notes = HashMap ℕ Note (BuildHasherDefault FoldHasher)
+-- a note in the list, or else in the map
+abbrev pub near_or_far : Option (Option Note) → Option Note → Option Note
+near_or_far (Some (Some note)) far = Some note
+near_or_far _ far = far
 
 abbrev pub note_at : Notes → ℕ → Option Note
-note_at notes number = get nat_eq notes number
+note_at notes number = near_or_far (slice_get notes.near.items number) (get nat_eq notes.far number)
 
 -- ---- How the numbers of a line use notes, in their order ----
 

@@ -47,6 +47,13 @@ ReadsLine said old new (Ok word) =
 ReadsLine said old new (Err (Journal kind)) = (said ≡ Err kind) × Grows old new
 ReadsLine said old new (Err Memory) = Grows old new
 
+-- all fields after a word were put at the end of a list, or any
+abbrev pub PutsAll : ℕ → Word → List (List ℕ) → List Field → List Field → Result Bool LineFault → Type 0
+PutsAll ranks word fields old new (Ok true) = ReadsLine (line_after_word ranks word fields) old new (Ok word)
+PutsAll ranks word fields old new (Ok false) = Grows old new
+PutsAll ranks word fields old new (Err (Journal kind)) = ⊥
+PutsAll ranks word fields old new (Err Memory) = Grows old new
+
 -- a line was put after others
 pub record Takes (said : Result Line JournalFaultKind) (old new : List Line) (taken : Taken) : Type 0 where
   pub line : Line

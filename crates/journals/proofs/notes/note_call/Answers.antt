@@ -1,23 +1,23 @@
 -- No number is left to be noted.
-use Rattle.std.proofs.Common.{◌≡◌, ◌+◌, ◌∙◌, ap, sym, length, arith, []}
+use Rattle.std.proofs.Common.{◌≡◌, ◌+◌, ◌∙◌, ap, sym, length, arith}
 use Rattle.journals.specs.inner.Numbered.{numbered_from}
 use Rattle.journals.specs.inner.Notes.{note_at, may_use, noted, may_call, by_call}
 use Rattle.journals.specs.declared.word.Word.TheVariants.{Call}
-use Rattle.journals.proofs.NoteSteps.{none_numbered_left, used, skipped}
+use Rattle.journals.specs.inner.Places.{looked_at, requests_first}
+use Rattle.journals.proofs.NoteSteps.{used, skipped}
+use Rattle.journals.proofs.PlaceLemmas.{may_late, noted_late}
 use Rattle.journals.proofs.notes.note_call.Goals as goal
 use Rattle.journals.proofs.notes.note_call.Goals.{in-Some+then-is_of_request+in_ok-use_in_call, in-Some+else-is_of_request, in_default}
 
 pub returns-clause-ok : goal.returns-clause-ok
 returns-clause-ok c =
-    let at_end : c.loop-place.place ≡ length c.args.call.fields.now = omega arith in
-    let left : numbered_from (Call c.args.call.word) c.args.call.fields.now c.loop-place.place ≡ [] = ap (numbered_from (Call c.args.call.word) c.args.call.fields.now) at_end ∙ none_numbered_left (Call c.args.call.word) c.args.call.fields.now in
-    sym c.loop-place.invariant.uses ∙ ap (may_use (may_call c.args.call.line) (by_call c.args.call.word c.args.call.fields.now c.args.call.line) (note_at c.loop-place.notes)) left
+    let at_end : c.loop-place.place ≡ looked_at (requests_first c.args.call.word) (length c.args.call.fields.now) = omega arith in
+    sym c.loop-place.invariant.uses ∙ may_late (may_call c.args.call.line) (by_call c.args.call.word c.args.call.fields.now c.args.call.line) (note_at c.loop-place.notes) c.args.call.word c.args.call.fields.now c.loop-place.place at_end
 
 pub returns-clause-notes : goal.returns-clause-notes
 returns-clause-notes c = λ other.
-    let at_end : c.loop-place.place ≡ length c.args.call.fields.now = omega arith in
-    let left : numbered_from (Call c.args.call.word) c.args.call.fields.now c.loop-place.place ≡ [] = ap (numbered_from (Call c.args.call.word) c.args.call.fields.now) at_end ∙ none_numbered_left (Call c.args.call.word) c.args.call.fields.now in
-    sym (ap (noted (by_call c.args.call.word c.args.call.fields.now c.args.call.line) other (note_at c.loop-place.notes other)) left) ∙ c.loop-place.invariant.notes other
+    let at_end : c.loop-place.place ≡ looked_at (requests_first c.args.call.word) (length c.args.call.fields.now) = omega arith in
+    sym (noted_late (may_call c.args.call.line) (by_call c.args.call.word c.args.call.fields.now c.args.call.line) other (note_at c.loop-place.notes other) c.args.call.word c.args.call.fields.now c.loop-place.place at_end) ∙ c.loop-place.invariant.notes other
 
 pub loop-place-preserved : goal.loop-place-preserved
 loop-place-preserved c =

@@ -5,7 +5,7 @@ use Rattle.journals.specs.Words.{forms_of}
 use Rattle.journals.specs.Lines.{last_field, fields_of}
 use Rattle.journals.specs.inner.Taking.{fields_after_word, PutsFields}
 use Rattle.journals.proofs.PushLemmas.{Tested, after_word_read, after_word_wrong}
-use Rattle.journals.proofs.line.push_after_word.Goals as goal
+use Rattle.journals.proofs.line.push_by_parts.Goals as goal
 
 pub returns-in-Ok : goal.returns-in-Ok
 returns-in-Ok c =
