@@ -8,15 +8,17 @@ use Rattle.journals.specs.Lines.{Line}
 use Rattle.closing.specs.Entries.{Run, Placed, entries_at, entries_in, journal_at, lines_at, lines_in}
 use Rattle.closing.specs.Entry.{Choice, matched_message}
 use Rattle.closing.specs.Fit.{AreFormed, EntriesFit, IsFit, TestsFit, report_count}
+use Rattle.closing.specs.Freed.{is_freed}
 use Rattle.closing.specs.Numbers.{preface_of}
 use Rattle.closing.specs.Recording.{Listed, cut, ended, list_from, list_of, progress_first, without_journal}
 use Rattle.closing.specs.Steps.{Own, plain}
 use Rattle.closing.specs.Table.{Table}
-use Rattle.closing.specs.inner.Lists.{Stands}
+use Rattle.closing.specs.inner.Lists.{Handed, HasPlaces, Stands}
 use Rattle.closing.specs.inner.Noted.{reports_in}
 use Rattle.closing.specs.inner.RequestReports.{AreReadable}
 use Rattle.closing.specs.inner.SoFar.{AreOfLine, IsBegun, IsOn, IsPart, IsWalk, entries_left}
 use Rattle.closing.specs.inner.Table.{Grows}
+use Rattle.closing.specs.declared.freed.Freed.{Freed}
 use Rattle.closing.specs.declared.list.List.{List as ListCode}
 use Rattle.closing.specs.declared.numbers.Communicators.{Communicators}
 use Rattle.closing.specs.declared.walk.Walk.{Walk}
@@ -28,13 +30,21 @@ use Rattle.closing.proofs.MatchedLemmas.{no_matched}
 use Rattle.closing.proofs.PlacedLemmas.{entries_after_reports, none_after}
 use Rattle.closing.proofs.WalkLemmas.{part_of_on}
 
+true_false : (b : Bool) → b ≡ true → b ≡ false → ⊥
+true_false true one other = cc (other)
+true_false false one other = cc (one)
+
 preface_line : (calls : List Call) → AreOfLine 0 0 (plain 0 calls)
 preface_line calls = λ place from within. line_past [] (plain 0 calls) 0 place (plain_line 0 calls) from (omega (arith, within))
+
+-- what stays as the entries of a rank are taken, as long as nothing was handed on
+abbrev pub first_of : Run → ℕ → Handed
+first_of run rank = record { calls = []; frees = is_freed (lines_at run rank) }
 
 -- what else is known of a walk to which nothing was added but its preface
 pub record IsFirst (run : Run) (rank : ℕ) (walk : Walk) : Type 0 where
   pub rank_is : walk.rank ≡ rank
-  pub stands : Stands [] (progress_first run rank) walk.list
+  pub stands : Stands (first_of run rank) (progress_first run rank) walk.list
   pub handed : walk.handed ≡ 0
   pub before : walk.before ≡ 0
   pub line : walk.line ≡ 0
@@ -58,9 +68,10 @@ module _ (run : Run) (choice : Choice) (journal : Journal) (table : Table) (walk
     journal = journal;
     there = there;
     so_far = record {
-      handed = [];
+      handed = first_of run walk.rank;
       progress = progress_first run walk.rank;
       count = sym first.handed;
+      frees = ap (λ (it : Option Journal). is_freed (lines_in it)) there;
       stands = first.stands;
       late = ap (map Own) first.late;
       list = ap (list_from run choice (progress_first run walk.rank)) (sym entries_first);
@@ -84,15 +95,20 @@ module _ (run : Run) (choice : Choice) (journal : Journal) (table : Table) (walk
   }
 
   pub begun_walk : IsWalk run choice table walk
-  begun_walk = record { part = part_of_on run choice table walk begun_on first.on; on = λ goes. begun_on }
+  begun_walk = record {
+    part = part_of_on run choice table walk begun_on first.on;
+    on = λ goes. begun_on;
+    freed = λ over. absurd (true_false walk.is_over over first.on);
+  }
 
 -- ---- Without a journal ----
 
 -- what else is known of a walk that was left after its preface
 pub record IsLeft (run : Run) (rank : ℕ) (list : ListCode) (walk : Walk) : Type 0 where
   pub rank_is : walk.rank ≡ rank
-  pub stands : Stands [] (progress_first run rank) list
+  pub stands : Stands (first_of run rank) (progress_first run rank) list
   pub items : walk.list.records.items ≡ list.records.items ++ Open ∷ []
+  pub freed : walk.list.freed ≡ list.freed
   pub handed : walk.handed ≡ 0
   pub before : walk.before ≡ 0
   pub line : walk.line ≡ 0
@@ -114,6 +130,9 @@ left_walk run choice table list walk none is = record {
     over = λ over. (refl, is.left ∙ ap (λ line. Some (record { line = line; why = NoJournal })) (sym ended_is.line_is));
   });
   on = λ goes. absurd (true_false walk.is_over is.over goes);
+  freed = λ over.
+      subst (λ (it : Freed). HasPlaces (is_freed (lines_at run walk.rank)) (list_of run choice walk.rank).records it) (sym is.freed)
+      (subst (λ (it : Listed). HasPlaces (is_freed (lines_at run walk.rank)) it.records list.freed) (sym listed) ended_is.places);
 }
   where
     whole : Listed
@@ -122,14 +141,10 @@ left_walk run choice table list walk none is = record {
     listed : list_of run choice walk.rank ≡ without_journal true (cut whole)
     listed = ap (λ (it : Option Journal). without_journal (is_none it) (cut (list_from run choice (progress_first run walk.rank) (entries_in walk.rank it)))) none
 
-    ended_is : IsEnded (cut whole) [] (list.records.items ++ Open ∷ []) 0 0 None
+    ended_is : IsEnded (cut whole) (first_of run walk.rank) list Open 0 0 None
     ended_is =
-        calls_ended (progress_first run walk.rank) [] list.records.items Open 0 0 None (omega (arith, is.stands.count, is.stands.short))
-        is.stands.records (preface_line (preface_of run walk.rank))
-
-    true_false : (b : Bool) → b ≡ true → b ≡ false → ⊥
-    true_false true one other = cc (other)
-    true_false false one other = cc (one)
+        calls_ended (progress_first run walk.rank) (first_of run walk.rank) list Open 0 0 None (omega (arith, is.stands.count, is.stands.short))
+        is.stands.records is.stands.places (preface_line (preface_of run walk.rank))
 
 -- ---- As a walk is made ----
 
@@ -143,7 +158,7 @@ pub record IsEmpty (walk : Walk) : Type 0 where
   pub on : walk.is_over ≡ false
 
 module _ (run : Run) (choice : Choice) (table : Table) (empty put : Walk) (is_empty : IsEmpty empty) (listed : put ≡ record empty { list = put.list })
-    (stands : Stands [] (progress_first run empty.rank) put.list) where
+    (stands : Stands (first_of run empty.rank) (progress_first run empty.rank) put.list) where
   -- with a journal
   pub new_begun : (journal : Journal) (walk : Walk) → walk ≡ record put { requests = walk.requests; last = walk.last; comms = walk.comms; next = walk.next }
       → IsFit run choice → journal_at run empty.rank ≡ Some journal → IsBegun table journal walk → IsWalk run choice table walk
@@ -152,8 +167,8 @@ module _ (run : Run) (choice : Choice) (table : Table) (empty put : Walk) (is_em
       begun_walk run choice journal table walk fit (subst (λ (n : ℕ). journal_at run n ≡ Some journal) (sym rank) there)
       (record {
         rank_is = refl;
-        stands = subst (λ (n : ℕ). Stands [] (progress_first run n) walk.list) (sym rank)
-            (subst (λ (it : ListCode). Stands [] (progress_first run empty.rank) it) (sym (ap (λ (it : Walk). it.list) same)) stands);
+        stands = subst (λ (n : ℕ). Stands (first_of run n) (progress_first run n) walk.list) (sym rank)
+            (subst (λ (it : ListCode). Stands (first_of run empty.rank) (progress_first run empty.rank) it) (sym (ap (λ (it : Walk). it.list) same)) stands);
         handed = ap (λ (it : Walk). it.handed) same ∙ ap (λ (it : Walk). it.handed) listed ∙ is_empty.handed;
         before = ap (λ (it : Walk). it.before) same ∙ ap (λ (it : Walk). it.before) listed ∙ is_empty.before;
         line = ap (λ (it : Walk). it.line) same ∙ ap (λ (it : Walk). it.line) listed ∙ is_empty.line;
@@ -165,15 +180,16 @@ module _ (run : Run) (choice : Choice) (table : Table) (empty put : Walk) (is_em
 
   -- without one
   pub new_left : (walk : Walk) → walk ≡ record put { list = walk.list; is_over = true; left = Some (record { line = put.line; why = NoJournal }) }
-      → walk.list.records.items ≡ put.list.records.items ++ Open ∷ [] → journal_at run empty.rank ≡ None → IsWalk run choice table walk
-  new_left walk same items there =
+      → walk.list.records.items ≡ put.list.records.items ++ Open ∷ [] → walk.list.freed ≡ put.list.freed → journal_at run empty.rank ≡ None → IsWalk run choice table walk
+  new_left walk same items freed there =
       let rank : walk.rank ≡ empty.rank = ap (λ (it : Walk). it.rank) same ∙ ap (λ (it : Walk). it.rank) listed in
       let line : put.line ≡ 0 = ap (λ (it : Walk). it.line) listed ∙ is_empty.line in
       left_walk run choice table put.list walk (subst (λ (n : ℕ). journal_at run n ≡ None) (sym rank) there)
       (record {
         rank_is = refl;
-        stands = subst (λ (n : ℕ). Stands [] (progress_first run n) put.list) (sym rank) stands;
+        stands = subst (λ (n : ℕ). Stands (first_of run n) (progress_first run n) put.list) (sym rank) stands;
         items = items;
+        freed = freed;
         handed = ap (λ (it : Walk). it.handed) same ∙ ap (λ (it : Walk). it.handed) listed ∙ is_empty.handed;
         before = ap (λ (it : Walk). it.before) same ∙ ap (λ (it : Walk). it.before) listed ∙ is_empty.before;
         line = ap (λ (it : Walk). it.line) same ∙ line;

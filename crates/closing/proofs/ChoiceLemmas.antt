@@ -1,46 +1,49 @@
 -- A wait for any of some requests, and what the list of a rank is after waits.
-use Rattle.std.proofs.Common.{◌≡◌, ◌∙◌, ◌<◌, ◌≤◌, ◌+◌, ◌-◌, ◌&&◌, ◌||◌, ◌==◌, ℕ, zero, suc, Bool, true, false, not, cond, refl, sym, ap, subst, arith, List, [], ◌∷◌, ◌++◌, length, map, take, append_assoc, length-append, Option, Some, None, option_map, is_some, Result, Ok, Err, inl, inr, eqb, leb, ltb}
+use Rattle.std.proofs.Common.{◌≡◌, ◌∙◌, ◌<◌, ◌≤◌, ◌+◌, ◌-◌, ◌&&◌, ◌||◌, ◌==◌, ℕ, suc, true, false, not, cond, refl, sym, ap, subst, arith, List, [], ◌∷◌, ◌++◌, length, map, take, append_assoc, length-append, Some, None, option_map, is_some, Err, inl, inr, eqb, leb, ltb}
 use Rattle.std.specs.Prelude.{nat_eq, IsTrue, position}
 use Rattle.std.specs.List.{list_all, list_any, position_or_len}
 use Rattle.std.specs.HashMap.{get}
-use Rattle.std.proofs.lemmas.Bool.{cases_eq, cases_Bool, cond-true, cond-false, eq-eqb, eqb-true, ne_eqb, le-leb, lt-ltb, le-ltb, ltb-true, and_from, or_left, or_right, or_from, or_parts, both_ways}
+use Rattle.std.proofs.lemmas.Bool.{cases_eq, cases_Bool, cond-true, cond-false, eq-eqb, ne_eqb, le-leb, lt-ltb, le-ltb, ltb-true, and_from, or_parts}
 use Rattle.std.proofs.lemmas.List.{append-nil, map-append, length-map, take_at, take_all}
 use Rattle.mpicall.specs.declared.call.Call.{Call}
-use Rattle.mpicall.specs.declared.call.Call.TheVariants.{Wait, Waitany}
-use Rattle.mpicall.specs.Argument.{Number, request_argument, is_in_range}
+use Rattle.mpicall.specs.Argument.{request_argument, is_in_range}
 use Rattle.mpicall.specs.Limits.{in_ranges, few_enough}
 use Rattle.mpicall.specs.declared.limits.TheConstants.{GREATEST_REQUEST, MOST_REQUESTS}
-use Rattle.closing.specs.Steps.{Id, Own, Written, Progress, plain, waits_for, wait_all, wait_with, wait_one, wait_for_one, chosen_at, number_in, has_number, without, without_all, numbers_of}
+use Rattle.closing.specs.Steps.{Id, Own, Progress, plain, waits_for, wait_all, wait_with, wait_one, wait_for_one, chosen_at, number_in, has_number, without, without_all, numbers_of}
 use Rattle.closing.specs.inner.Free.{Requests, AreNumbered}
-use Rattle.closing.specs.inner.Lists.{ComesTo, IsStarted, AreApart, Stands, IsCut, Puts, Cuts, Adds, FreesOnly, FindsOnly, Owns, KeepsLines, TakesNumbers, AreSmall, AreHeld, calls_in, found_number}
+use Rattle.closing.specs.inner.Lists.{Handed, HasIds, HasPlaces, ComesTo, IsStarted, AreApart, Stands, IsCut, Puts, Cuts, Adds, FreesOnly, FindsOnly, Owns, KeepsLines, TakesNumbers, AreSmall, AreHeld, calls_in, found_number}
+use Rattle.closing.specs.declared.freed.Freed.{Freed}
 use Rattle.closing.specs.declared.list.List.{List as ListCode}
 use Rattle.closing.specs.declared.list.Active.{Active}
 use Rattle.closing.specs.declared.list.TheConstants.{MOST_RECORDS}
 use Rattle.closing.specs.declared.stop.Stop.{Stop}
-use Rattle.closing.proofs.ListLemmas.{SameRecords, AllOfLine, plain_calls, plain_line, started_more, take_past, line_past, same_numbered, stop_comes}
+use Rattle.closing.proofs.FreedPlaces.{places_cut, places_more, plain_starts}
+use Rattle.closing.proofs.ListLemmas.{SameRecords, plain_calls, plain_line, started_more, take_past, line_past, same_numbered, stop_comes}
 use Rattle.closing.proofs.RequestLemmas.{all_apart, found_first, has_number_in, held_numbers, left_gone, left_none, left_there, own_without, gone_started, without_apart}
 use Rattle.closing.proofs.WaitLemmas.{small_held, small_arguments, small_take}
 
 -- ---- After waits for all ----
 
 -- what a list has that says its records are these, whatever its requests are
-pub record HasLines (handed : List Call) (progress : Progress) (it : ListCode) : Type 0 where
-  pub records : calls_in progress.records ≡ handed ++ it.records.items
+pub record HasLines (handed : Handed) (progress : Progress) (it : ListCode) : Type 0 where
+  pub records : calls_in progress.records ≡ handed.calls ++ it.records.items
   pub count : it.count ≡ length progress.records
   pub short : it.count < MOST_RECORDS
+  pub places : HasPlaces handed.frees progress.records it.freed
 
-pub lines_kept : (handed : List Call) (progress : Progress) (old mid : ListCode) → Stands handed progress old → mid.records.items ≡ old.records.items → mid.count ≡ old.count → HasLines handed progress mid
-lines_kept handed progress old mid stands records count = record {
-  records = stands.records ∙ ap (λ calls. handed ++ calls) (sym records);
+pub lines_kept : (handed : Handed) (progress : Progress) (old mid : ListCode) → Stands handed progress old → mid.records.items ≡ old.records.items → mid.count ≡ old.count → mid.freed ≡ old.freed → HasLines handed progress mid
+lines_kept handed progress old mid stands records count freed = record {
+  records = stands.records ∙ ap (λ calls. handed.calls ++ calls) (sym records);
   count = count ∙ stands.count;
   short = omega (arith, count, stands.short);
+  places = subst (λ (it : Freed). HasPlaces handed.frees progress.records it) (sym freed) stands.places;
 }
 
 plain_length : (line : ℕ) (calls : List Call) → length (plain line calls) ≡ length calls
 plain_length line [] = refl
 plain_length line (call ∷ calls) = ap suc (plain_length line calls)
 
-module _ (handed : List Call) (progress : Progress) (line : ℕ) (mid new : ListCode) (calls : List Call) (active : Requests) (has : HasLines handed progress mid) where
+module _ (handed : Handed) (progress : Progress) (line : ℕ) (mid new : ListCode) (calls : List Call) (active : Requests) (has : HasLines handed progress mid) where
   abbrev after : Progress
   after = record progress { records = progress.records ++ plain line calls; active = active }
 
@@ -50,9 +53,9 @@ module _ (handed : List Call) (progress : Progress) (line : ℕ) (mid new : List
   many_plain : length (plain line calls) ≡ length calls
   many_plain = plain_length line calls
 
-  pub waited_records : Puts mid new calls → calls_in (progress.records ++ plain line calls) ≡ handed ++ new.records.items
+  pub waited_records : Puts mid new calls → calls_in (progress.records ++ plain line calls) ≡ handed.calls ++ new.records.items
   waited_records puts =
-      waited_calls ∙ ap (λ it. it ++ calls) has.records ∙ append_assoc handed mid.records.items calls ∙ ap (λ it. handed ++ it) (sym puts.records)
+      waited_calls ∙ ap (λ it. it ++ calls) has.records ∙ append_assoc handed.calls mid.records.items calls ∙ ap (λ it. handed.calls ++ it) (sym puts.records)
 
   pub waited_count : Puts mid new calls → new.count ≡ length (progress.records ++ plain line calls)
   waited_count puts = omega (arith, many_plain, puts.count, has.count, length-append progress.records (plain line calls))
@@ -67,18 +70,21 @@ module _ (handed : List Call) (progress : Progress) (line : ℕ) (mid new : List
             ∙ take_past (MOST_RECORDS - 1) (calls_in progress.records) calls (omega (arith, so_far, has.short))
             ∙ ap (λ n. calls_in progress.records ++ take (MOST_RECORDS - 1 - n) calls) so_far
             ∙ ap (λ it. it ++ take (MOST_RECORDS - 1 - mid.count) calls) has.records
-            ∙ append_assoc handed mid.records.items (take (MOST_RECORDS - 1 - mid.count) calls)
-            ∙ ap (λ it. handed ++ it) (sym cuts.records);
+            ∙ append_assoc handed.calls mid.records.items (take (MOST_RECORDS - 1 - mid.count) calls)
+            ∙ ap (λ it. handed.calls ++ it) (sym cuts.records);
         ends_at = line_past progress.records (plain line calls) line (MOST_RECORDS - 1) (plain_line line calls) (omega (arith, has.short, has.count)) (omega (arith, many_plain, cuts.long, has.count));
+        places =
+            places_cut handed.frees (MOST_RECORDS - 1) progress.records (plain line calls) mid.freed new.freed (omega (arith, has.short, has.count))
+            (plain_starts handed.frees line calls) cuts.freed has.places;
       }
 
 -- the numbers of requests that are taken can stand in records
-pub taken_small : (handed : List Call) (progress : Progress) (old mid : ListCode) (ids : List Id) → Stands handed progress old → KeepsLines old mid → TakesNumbers progress.active ids mid → AreSmall mid.numbers.items
+pub taken_small : (handed : Handed) (progress : Progress) (old mid : ListCode) (ids : List Id) → Stands handed progress old → KeepsLines old mid → TakesNumbers progress.active ids mid → AreSmall mid.numbers.items
 taken_small handed progress old mid ids stands keeps takes =
     subst AreSmall (sym takes.numbers)
     (small_held progress.active (numbers_of progress.active ids) old stands.numbered (omega (arith, stands.given, stands.short)) (held_numbers progress.active ids))
 
-pub all_cut : (A B : Type 0) (stop : Stop) (handed : List Call) (progress : Progress) (line : ℕ) (old mid new : ListCode) (ids : List Id)
+pub all_cut : (A B : Type 0) (stop : Stop) (handed : Handed) (progress : Progress) (line : ℕ) (old mid new : ListCode) (ids : List Id)
     → Stands handed progress old → KeepsLines old mid → TakesNumbers progress.active ids mid → Adds {A = A} (Err stop) mid new (waits_for (length mid.numbers.items) mid.numbers.items)
     → ComesTo {A = B} (Err stop) handed (wait_all progress line (numbers_of progress.active ids)) line new
 all_cut A B stop handed progress line old mid new ids stands keeps takes adds =
@@ -86,15 +92,15 @@ all_cut A B stop handed progress line old mid new ids stands keeps takes adds =
     (stop_comes A B stop handed (wait_with progress line (numbers_of progress.active ids) (waits_for (length mid.numbers.items) mid.numbers.items)) line mid new new
     (waits_for (length mid.numbers.items) mid.numbers.items)
     (waited_cut handed progress line mid new (waits_for (length mid.numbers.items) mid.numbers.items) (without_all (numbers_of progress.active ids) progress.active)
-    (lines_kept handed progress old mid stands (ap (λ records. records.items) keeps.records) keeps.count)) adds)
+    (lines_kept handed progress old mid stands (ap (λ records. records.items) keeps.records) keeps.count keeps.freed)) adds)
 
-pub all_stand : (handed : List Call) (progress : Progress) (line : ℕ) (old mid waited new : ListCode) (ids : List Id)
+pub all_stand : (handed : Handed) (progress : Progress) (line : ℕ) (old mid waited new : ListCode) (ids : List Id)
     → Stands handed progress old → KeepsLines old mid → TakesNumbers progress.active ids mid
     → Puts mid waited (waits_for (length mid.numbers.items) mid.numbers.items) → waited.count < MOST_RECORDS
     → FreesOnly waited new → ((active : Requests) → AreNumbered active waited → AreHeld active waited.numbers.items → AreNumbered (without_all waited.numbers.items active) new)
     → Stands handed (wait_all progress line (numbers_of progress.active ids)) new
 all_stand handed progress line old mid waited new ids stands keeps takes puts short same frees =
-    let lines : HasLines handed progress mid = lines_kept handed progress old mid stands (ap (λ records. records.items) keeps.records) keeps.count in
+    let lines : HasLines handed progress mid = lines_kept handed progress old mid stands (ap (λ records. records.items) keeps.records) keeps.count keeps.freed in
     let numbers : waited.numbers.items ≡ numbers_of progress.active ids = ap (λ it. it.items) puts.numbers ∙ takes.numbers in
     let numbered : AreNumbered progress.active waited = same_numbered progress.active old waited (puts.free ∙ keeps.free) (puts.given ∙ keeps.given) stands.numbered in
     let maps : new.active ≡ mid.active = same.active ∙ puts.active in
@@ -102,7 +108,7 @@ all_stand handed progress line old mid waited new ids stands keeps takes puts sh
     (record {
       records =
           waited_records handed progress line mid waited (waits_for (length mid.numbers.items) mid.numbers.items) (without_all (numbers_of progress.active ids) progress.active) lines puts
-          ∙ ap (λ records. handed ++ records.items) (sym same.records);
+          ∙ ap (λ records. handed.calls ++ records.items) (sym same.records);
       count = same.count ∙ waited_count handed progress line mid waited (waits_for (length mid.numbers.items) mid.numbers.items) (without_all (numbers_of progress.active ids) progress.active) lines puts;
       short = omega (arith, same.count, short);
       given = omega (arith, same.given, same.count, puts.given, puts.count, keeps.given, keeps.count, stands.given);
@@ -113,6 +119,10 @@ all_stand handed progress line old mid waited new ids stands keeps takes puts sh
       started = λ id. subst (λ it. IsStarted (progress.records ++ plain line (waits_for (length mid.numbers.items) mid.numbers.items)) id (get nat_eq it id)) (sym maps)
           (started_more progress.records (plain line (waits_for (length mid.numbers.items) mid.numbers.items)) id (get nat_eq mid.active id)
           (keeps.started progress.records id (stands.started id)));
+      ids = subst (λ (it : Freed). HasIds handed.frees it) (sym (same.freed ∙ puts.freed ∙ keeps.freed)) stands.ids;
+      places =
+          places_more handed.frees progress.records (plain line (waits_for (length mid.numbers.items) mid.numbers.items)) old.freed new.freed
+          (plain_starts handed.frees line (waits_for (length mid.numbers.items) mid.numbers.items)) (same.freed ∙ puts.freed ∙ keeps.freed) stands.places;
     })
 
 -- ---- The numbers that a wait for any names ----
@@ -173,12 +183,12 @@ finds_enough found rest all full is = sym (ap (take MOST_REQUESTS) (sym is) ∙ 
 pub finds_all : (found all : List ℕ) → length found ≤ MOST_REQUESTS → found ≡ all → found ≡ take MOST_REQUESTS all
 finds_all found all few is = sym (ap (take MOST_REQUESTS) (sym is) ∙ take_all MOST_REQUESTS found few)
 
-pub found_small : (handed : List Call) (progress : Progress) (old : ListCode) (ids : List Id) → Stands handed progress old → AreSmall (take MOST_REQUESTS (numbers_of progress.active ids))
+pub found_small : (handed : Handed) (progress : Progress) (old : ListCode) (ids : List Id) → Stands handed progress old → AreSmall (take MOST_REQUESTS (numbers_of progress.active ids))
 found_small handed progress old ids stands =
     small_take MOST_REQUESTS (numbers_of progress.active ids)
     (small_held progress.active (numbers_of progress.active ids) old stands.numbered (omega (arith, stands.given, stands.short)) (held_numbers progress.active ids))
 
-pub number_small : (handed : List Call) (progress : Progress) (old : ListCode) (wanted number : ℕ) → Stands handed progress old → number_in progress.active (Own wanted) ≡ Some number → number ≤ GREATEST_REQUEST
+pub number_small : (handed : Handed) (progress : Progress) (old : ListCode) (wanted number : ℕ) → Stands handed progress old → number_in progress.active (Own wanted) ≡ Some number → number ≤ GREATEST_REQUEST
 number_small handed progress old wanted number stands found =
     (small_held progress.active (number ∷ []) old stands.numbered (omega (arith, stands.given, stands.short)) (has_number_in progress.active (Own wanted) number found, tt)).0
 
@@ -201,7 +211,7 @@ choice_in_range number xs small low few = elim (cases_Bool (ltb (position_or_len
       (and_from (leb number GREATEST_REQUEST && true) true (and_from (leb number GREATEST_REQUEST) true (le-leb number GREATEST_REQUEST low) refl) refl)
 ]
 
-pub one_cut : (A B : Type 0) (stop : Stop) (handed : List Call) (progress : Progress) (line : ℕ) (old mid new : ListCode) (wanted number : ℕ) (ids : List Id)
+pub one_cut : (A B : Type 0) (stop : Stop) (handed : Handed) (progress : Progress) (line : ℕ) (old mid new : ListCode) (wanted number : ℕ) (ids : List Id)
     → Stands handed progress old → number_in progress.active (Own wanted) ≡ Some number → FindsOnly old mid → mid.numbers.items ≡ take MOST_REQUESTS (numbers_of progress.active ids)
     → Adds {A = A} (Err stop) mid new (wait_for_one number mid.numbers.items ∷ [])
     → ComesTo {A = B} (Err stop) handed (wait_one progress line (number_in progress.active (Own wanted)) (take MOST_REQUESTS (numbers_of progress.active ids))) line new
@@ -211,17 +221,17 @@ one_cut A B stop handed progress line old mid new wanted number ids stands found
     (stop_comes A B stop handed (wait_with progress line (number ∷ []) (wait_for_one number mid.numbers.items ∷ [])) line mid new new
     (wait_for_one number mid.numbers.items ∷ [])
     (waited_cut handed progress line mid new (wait_for_one number mid.numbers.items ∷ []) (without number progress.active)
-    (lines_kept handed progress old mid stands (ap (λ records. records.items) keeps.records) keeps.count)) adds))
+    (lines_kept handed progress old mid stands (ap (λ records. records.items) keeps.records) keeps.count keeps.freed)) adds))
 
-pub one_stands : (handed : List Call) (progress : Progress) (line : ℕ) (old mid waited taken new : ListCode) (wanted : ℕ) (active : Active) (ids : List Id)
+pub one_stands : (handed : Handed) (progress : Progress) (line : ℕ) (old mid waited taken new : ListCode) (wanted : ℕ) (active : Active) (ids : List Id)
     → Stands handed progress old → get nat_eq old.active wanted ≡ Some active → FindsOnly old mid → mid.numbers.items ≡ take MOST_REQUESTS (numbers_of progress.active ids)
     → Puts mid waited (wait_for_one active.number mid.numbers.items ∷ []) → waited.count < MOST_RECORDS
-    → SameRecords waited taken → ((q : ℕ) → get nat_eq taken.active q ≡ cond (nat_eq wanted q) None (get nat_eq waited.active q))
+    → SameRecords waited taken → taken.freed ≡ waited.freed → ((q : ℕ) → get nat_eq taken.active q ≡ cond (nat_eq wanted q) None (get nat_eq waited.active q))
     → FreesOnly taken new → ((left : Requests) → AreNumbered left taken → has_number left active.number ≡ true → AreNumbered (without active.number left) new)
     → Stands handed (wait_one progress line (number_in progress.active (Own wanted)) (take MOST_REQUESTS (numbers_of progress.active ids))) new
-one_stands handed progress line old mid waited taken new wanted active ids stands has keeps numbers puts short same gone frees freed =
+one_stands handed progress line old mid waited taken new wanted active ids stands has keeps numbers puts short same same_freed gone frees freed =
     let found : number_in progress.active (Own wanted) ≡ Some active.number = sym (stands.own wanted) ∙ ap (option_map (λ (one : Active). one.number)) has in
-    let lines : HasLines handed progress mid = lines_kept handed progress old mid stands (ap (λ records. records.items) keeps.records) keeps.count in
+    let lines : HasLines handed progress mid = lines_kept handed progress old mid stands (ap (λ records. records.items) keeps.records) keeps.count keeps.freed in
     let map_was : waited.active ≡ old.active = puts.active ∙ keeps.active in
     let went : (q : ℕ) → get nat_eq taken.active q ≡ cond (nat_eq wanted q) None (get nat_eq old.active q) = λ q. gone q ∙ ap (λ it. cond (nat_eq wanted q) None (get nat_eq it q)) map_was in
     let numbered : AreNumbered progress.active taken =
@@ -231,7 +241,7 @@ one_stands handed progress line old mid waited taken new wanted active ids stand
     (record {
       records =
           waited_records handed progress line mid waited (wait_for_one active.number mid.numbers.items ∷ []) (without active.number progress.active) lines puts
-          ∙ ap (λ records. handed ++ records.items) (sym (frees.records ∙ same.records));
+          ∙ ap (λ records. handed.calls ++ records.items) (sym (frees.records ∙ same.records));
       count = frees.count ∙ same.count ∙ waited_count handed progress line mid waited (wait_for_one active.number mid.numbers.items ∷ []) (without active.number progress.active) lines puts;
       short = omega (arith, frees.count, same.count, short);
       given = omega (arith, frees.given, frees.count, same.given, same.count, puts.given, puts.count, keeps.given, keeps.count, stands.given);
@@ -241,9 +251,13 @@ one_stands handed progress line old mid waited taken new wanted active ids stand
       started = λ id. subst (λ it. IsStarted (progress.records ++ plain line (wait_for_one active.number mid.numbers.items ∷ [])) id (get nat_eq it id)) (sym frees.active)
           (started_more progress.records (plain line (wait_for_one active.number mid.numbers.items ∷ [])) id (get nat_eq taken.active id)
           (gone_started wanted old taken went progress.records id (stands.started id)));
+      ids = subst (λ (it : Freed). HasIds handed.frees it) (sym (frees.freed ∙ same_freed ∙ puts.freed ∙ keeps.freed)) stands.ids;
+      places =
+          places_more handed.frees progress.records (plain line (wait_for_one active.number mid.numbers.items ∷ [])) old.freed new.freed
+          (plain_starts handed.frees line (wait_for_one active.number mid.numbers.items ∷ [])) (frees.freed ∙ same_freed ∙ puts.freed ∙ keeps.freed) stands.places;
     }))
 
-pub one_none : (handed : List Call) (progress : Progress) (line : ℕ) (old : ListCode) (wanted : ℕ) (named : List ℕ) → Stands handed progress old → get nat_eq old.active wanted ≡ None
+pub one_none : (handed : Handed) (progress : Progress) (line : ℕ) (old : ListCode) (wanted : ℕ) (named : List ℕ) → Stands handed progress old → get nat_eq old.active wanted ≡ None
     → Stands handed (wait_one progress line (number_in progress.active (Own wanted)) named) old
 one_none handed progress line old wanted named stands none =
     let found : number_in progress.active (Own wanted) ≡ None = sym (stands.own wanted) ∙ ap (option_map (λ (one : Active). one.number)) none in
@@ -256,4 +270,5 @@ finds_both old mid new first more = record {
   active = more.active ∙ first.active;
   free = more.free ∙ first.free;
   given = more.given ∙ first.given;
+  freed = more.freed ∙ first.freed;
 }

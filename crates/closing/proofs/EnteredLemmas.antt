@@ -9,7 +9,7 @@ use Rattle.closing.specs.Entry.{Choice, steps_of}
 use Rattle.closing.specs.Steps.{Written, Progress, Step, WaitsForLate, after_steps}
 use Rattle.closing.specs.Recording.{Listed, Outcome, GoesOn, Ends, cut, ended, go_on, is_end, list_from, most_records, outcome_by, outcome_of}
 use Rattle.closing.specs.Fit.{EntriesFit, FitsOn, TestsFit}
-use Rattle.closing.specs.inner.Lists.{ComesTo, IsCut, Stands}
+use Rattle.closing.specs.inner.Lists.{Handed, ComesTo, IsCut, Stands}
 use Rattle.closing.specs.inner.SoFar.{AreOfLine, Entered}
 use Rattle.closing.specs.inner.Walked.{EndsAt}
 use Rattle.closing.specs.declared.list.List.{List as ListCode}
@@ -22,14 +22,14 @@ use Rattle.closing.proofs.WalkingLemmas.{list_begins, list_goes_on}
 -- ---- The list goes on ----
 
 -- it came so far by an entry, with others left
-pub record CameOn (run : Run) (choice : Choice) (others : List Placed) (whole : Listed) (handed : List Call) (line before : ℕ) (steps : List Step) (old : Progress) (it : ListCode) : Type 0 where
+pub record CameOn (run : Run) (choice : Choice) (others : List Placed) (whole : Listed) (handed : Handed) (line before : ℕ) (steps : List Step) (old : Progress) (it : ListCode) : Type 0 where
   pub stands : Stands handed (after_steps old line steps) it
   pub list : list_from run choice (after_steps old line steps) others ≡ whole
   pub fit : EntriesFit run choice (after_steps old line steps) others
   pub tests : TestsFit run choice (after_steps old line steps) others
   pub lines : AreOfLine line before (after_steps old line steps).records
 
-module _ (run : Run) (choice : Choice) (placed : Placed) (others : List Placed) (whole : Listed) (handed : List Call) (before : ℕ) (progress : Progress) (it : ListCode) where
+module _ (run : Run) (choice : Choice) (placed : Placed) (others : List Placed) (whole : Listed) (handed : Handed) (before : ℕ) (progress : Progress) (it : ListCode) where
   abbrev pub HasSteps : Outcome → Type 0
   HasSteps outcome = (steps : List Step) × ((outcome ≡ GoesOn steps) × CameOn run choice others whole handed placed.line before steps progress it)
 
@@ -69,14 +69,14 @@ module _ (run : Run) (choice : Choice) (placed : Placed) (others : List Placed) 
 
   stands_ended : (steps : List Step) (end : Call) (why : Option Why) → outcome_of run choice placed ≡ Ends steps end why → list_from run choice progress (placed ∷ others) ≡ whole
       → length progress.records ≤ before → Stands handed (after_steps progress placed.line steps) it
-      → IsEnded (cut whole) handed (it.records.items ++ end ∷ []) before placed.line why
+      → IsEnded (cut whole) handed it end before placed.line why
   stands_ended steps end why e list count stands =
       let q = after_steps progress placed.line steps in
-      subst (λ (all : Listed). IsEnded (cut all) handed (it.records.items ++ end ∷ []) before placed.line why) (ends_here steps end why e list)
-      (calls_ended q handed it.records.items end before placed.line why (few_of q stands) stands.records (of_line placed.line before progress steps count))
+      subst (λ (all : Listed). IsEnded (cut all) handed it end before placed.line why) (ends_here steps end why e list)
+      (calls_ended q handed it end before placed.line why (few_of q stands) stands.records stands.places (of_line placed.line before progress steps count))
 
   end_by : (outcome : Outcome) → outcome_of run choice placed ≡ outcome → list_from run choice progress (placed ∷ others) ≡ whole → length progress.records ≤ before
-      → Entered (Ok true) outcome handed progress placed.line it → IsEnded (cut whole) handed (it.records.items ++ Finalize ∷ []) before placed.line None
+      → Entered (Ok true) outcome handed progress placed.line it → IsEnded (cut whole) handed it Finalize before placed.line None
   end_by (GoesOn steps) e list count entered = absurd entered
   end_by (Ends steps end why) e list count entered =
       let same : outcome_of run choice placed ≡ Ends steps Finalize None = e ∙ ap (λ x. Ends steps x why) entered.0 ∙ ap (λ x. Ends steps Finalize x) entered.1.0 in
@@ -84,7 +84,7 @@ module _ (run : Run) (choice : Choice) (placed : Placed) (others : List Placed) 
 
   -- after the rank's last call
   pub entered_end : list_from run choice progress (placed ∷ others) ≡ whole → length progress.records ≤ before
-      → Entered (Ok true) (outcome_of run choice placed) handed progress placed.line it → IsEnded (cut whole) handed (it.records.items ++ Finalize ∷ []) before placed.line None
+      → Entered (Ok true) (outcome_of run choice placed) handed progress placed.line it → IsEnded (cut whole) handed it Finalize before placed.line None
   entered_end list count entered = end_by (outcome_of run choice placed) refl list count entered
 
   -- ---- The list is left ----
@@ -99,7 +99,7 @@ module _ (run : Run) (choice : Choice) (placed : Placed) (others : List Placed) 
 
   left_stands : (steps : List Step) (end : Call) (found : Option Why) (why : Why) → outcome_of run choice placed ≡ Ends steps end found → list_from run choice progress (placed ∷ others) ≡ whole
       → length progress.records ≤ before → (found ≡ Some why) × Stands handed (after_steps progress placed.line steps) it
-      → IsEnded (cut whole) handed (it.records.items ++ Open ∷ []) before placed.line (Some why)
+      → IsEnded (cut whole) handed it Open before placed.line (Some why)
   left_stands steps end found why e list count has =
       let why_is : outcome_of run choice placed ≡ Ends steps end (Some why) = e ∙ ap (λ x. Ends steps end x) has.0 in
       let end_is : end ≡ Open = open_by (why_at run placed) steps end why why_is in
@@ -107,13 +107,13 @@ module _ (run : Run) (choice : Choice) (placed : Placed) (others : List Placed) 
 
   left_cut : (steps : List Step) (more : List Written) → whole.records ≡ (after_steps progress placed.line steps).records ++ more → length progress.records ≤ before
       → IsCut handed (after_steps progress placed.line steps) placed.line it
-      → IsEnded (cut whole) handed (it.records.items ++ Open ∷ []) before placed.line (Some TooLong)
+      → IsEnded (cut whole) handed it Open before placed.line (Some TooLong)
   left_cut steps more e count is =
       calls_cut whole (after_steps progress placed.line steps) more handed it before placed.line e is (of_line placed.line before progress steps count)
 
   on_left : (steps : List Step) (why : Why) → outcome_of run choice placed ≡ GoesOn steps → list_from run choice progress (placed ∷ others) ≡ whole → length progress.records ≤ before
       → ComesTo {A = Bool} (Err (Left why)) handed (after_steps progress placed.line steps) placed.line it
-      → IsEnded (cut whole) handed (it.records.items ++ Open ∷ []) before placed.line (Some why)
+      → IsEnded (cut whole) handed it Open before placed.line (Some why)
   on_left steps TooLong e list count is =
       let begun = list_begins run choice (after_steps progress placed.line steps) others in
       let whole_is : list_from run choice (after_steps progress placed.line steps) others ≡ whole = sym (list_goes_on run choice progress placed others steps e) ∙ list in
@@ -130,7 +130,7 @@ module _ (run : Run) (choice : Choice) (placed : Placed) (others : List Placed) 
 
   at_left : (steps : List Step) (end : Call) (found : Option Why) (why : Why) → outcome_of run choice placed ≡ Ends steps end found → list_from run choice progress (placed ∷ others) ≡ whole
       → length progress.records ≤ before → EndsAt {A = Bool} (Err (Left why)) handed (after_steps progress placed.line steps) placed.line found it
-      → IsEnded (cut whole) handed (it.records.items ++ Open ∷ []) before placed.line (Some why)
+      → IsEnded (cut whole) handed it Open before placed.line (Some why)
   at_left steps end found TooLong e list count is =
       left_cut steps [] (ap (λ all. all.records) (sym (ends_here steps end found e list)) ∙ sym (append-nil (after_steps progress placed.line steps).records)) count is
   at_left steps end found NeverCameBack e list count is = left_stands steps end found NeverCameBack e list count is
@@ -144,12 +144,12 @@ module _ (run : Run) (choice : Choice) (placed : Placed) (others : List Placed) 
   at_left steps end found NoJournal e list count is = left_stands steps end found NoJournal e list count is
 
   left_by : (outcome : Outcome) (why : Why) → outcome_of run choice placed ≡ outcome → list_from run choice progress (placed ∷ others) ≡ whole → length progress.records ≤ before
-      → Entered (Err (Left why)) outcome handed progress placed.line it → IsEnded (cut whole) handed (it.records.items ++ Open ∷ []) before placed.line (Some why)
+      → Entered (Err (Left why)) outcome handed progress placed.line it → IsEnded (cut whole) handed it Open before placed.line (Some why)
   left_by (GoesOn steps) why e list count entered = on_left steps why e list count entered
   left_by (Ends steps end found) why e list count entered = at_left steps end found why e list count entered
 
   -- after an entry at which the list is left
   pub entered_left : (why : Why) → list_from run choice progress (placed ∷ others) ≡ whole → length progress.records ≤ before
       → Entered (Err (Left why)) (outcome_of run choice placed) handed progress placed.line it
-      → IsEnded (cut whole) handed (it.records.items ++ Open ∷ []) before placed.line (Some why)
+      → IsEnded (cut whole) handed it Open before placed.line (Some why)
   entered_left why list count entered = left_by (outcome_of run choice placed) why refl list count entered

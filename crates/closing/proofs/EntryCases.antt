@@ -1,6 +1,5 @@
 -- The list of a rank after an entry, by what the code asks of its call.
 use Rattle.std.proofs.Common.{◌≡◌, refl, sym, ap, subst, ℕ, Bool, true, false, List, Option, Some, None, Ok, Err}
-use Rattle.mpicall.specs.declared.call.Call.{Call}
 use Rattle.journals.specs.Known.{has_report}
 use Rattle.journals.specs.declared.word.ReportWord.TheVariants as report
 use Rattle.closing.specs.Called.{Called, Sends, StartsSend, Receives, StartsReceive, Exchanges, StartsExchange, Probes, ProbesMatching, ReceivesMatched, StartsMatched, Waits, Tests, WaitsAny, WaitsSome, Cancels, FreesRequest, Collects, StartsCollective, Duplicates, StartsDuplicate, Splits, Makes, MakesOfGroup, FreesComm, Nothing, Finalizes, Exits, Aborts, Fills, Stops}
@@ -9,7 +8,7 @@ use Rattle.closing.specs.Endings.{breaks_off}
 use Rattle.closing.specs.Entry.{Choice}
 use Rattle.closing.specs.Steps.{Id, Progress, WaitsForAll, WaitsForLate, after_step, after_steps}
 use Rattle.closing.specs.Recording.{Ends, GoesOn, Outcome, is_end, outcome_of}
-use Rattle.closing.specs.inner.Lists.{ComesTo, Stands}
+use Rattle.closing.specs.inner.Lists.{Handed, ComesTo, Stands}
 use Rattle.closing.specs.inner.SoFar.{Entered}
 use Rattle.closing.specs.inner.Walked.{EndsAt, Follows}
 use Rattle.closing.specs.inner.Walks.{ends}
@@ -57,7 +56,7 @@ not_long Aborts why e long = cc (e, long)
 not_long Fills why e long = cc (e, long)
 not_long Stops why e long = cc (e, long)
 
-found_stands : (handed : List Call) (progress : Progress) (line : ℕ) (it : ListCode) (why : Why) → (why ≡ TooLong → ⊥) → Stands handed progress it
+found_stands : (handed : Handed) (progress : Progress) (line : ℕ) (it : ListCode) (why : Why) → (why ≡ TooLong → ⊥) → Stands handed progress it
     → EndsAt {A = Bool} (Err (Left why)) handed progress line (Some why) it
 found_stands handed progress line it NeverCameBack h stands = (refl, stands)
 found_stands handed progress line it NeverReported h stands = (refl, stands)
@@ -71,12 +70,12 @@ found_stands handed progress line it NoJournal h stands = (refl, stands)
 found_stands handed progress line it TooLong h stands = absurd (h refl)
 
 -- an entry that ends the list with nothing put
-ends_entered : (outcome : Outcome) (why : Why) (handed : List Call) (progress : Progress) (line : ℕ) (it : ListCode) → outcome ≡ ends why → (why ≡ TooLong → ⊥)
+ends_entered : (outcome : Outcome) (why : Why) (handed : Handed) (progress : Progress) (line : ℕ) (it : ListCode) → outcome ≡ ends why → (why ≡ TooLong → ⊥)
     → Stands handed progress it → Entered (Err (Left why)) outcome handed progress line it
 ends_entered outcome why handed progress line it e short stands =
     subst (λ (one : Outcome). Entered (Err (Left why)) one handed progress line it) (sym e) (found_stands handed progress line it why short stands)
 
-pub breaks_entered : (run : Run) (choice : Choice) (placed : Placed) (why : Why) (handed : List Call) (progress : Progress) (it : ListCode) → breaks_off placed.called ≡ Some why
+pub breaks_entered : (run : Run) (choice : Choice) (placed : Placed) (why : Why) (handed : Handed) (progress : Progress) (it : ListCode) → breaks_off placed.called ≡ Some why
     → Stands handed progress it → Entered (Err (Left why)) (outcome_of run choice placed) handed progress placed.line it
 breaks_entered run choice placed why handed progress it e stands =
     ends_entered (outcome_of run choice placed) why handed progress placed.line it (broken_is run choice placed why e) (not_long placed.called why e) stands
@@ -120,7 +119,7 @@ past_both Aborts e f = cc (e)
 past_both Fills e f = cc (e)
 past_both Stops e f = cc (e)
 
-pub failed_entered : (run : Run) (choice : Choice) (placed : Placed) (handed : List Call) (progress : Progress) (it : ListCode) → goes_on_past placed.called ≡ true
+pub failed_entered : (run : Run) (choice : Choice) (placed : Placed) (handed : Handed) (progress : Progress) (it : ListCode) → goes_on_past placed.called ≡ true
     → has_report report.Failed placed.entry ≡ true → Stands handed progress it
     → Entered (Err (Left Failed)) (outcome_of run choice placed) handed progress placed.line it
 failed_entered run choice placed handed progress it past failed stands =
@@ -132,14 +131,14 @@ late_same : (progress : Progress) (line : ℕ) (ids : List Id) → ids ≡ progr
 late_same progress line ids e = ap (λ (late : List Id). after_step progress line (WaitsForAll late)) e
 
 -- after the waits for the sends that tests completed
-pub end_entered : (run : Run) (choice : Choice) (placed : Placed) (handed : List Call) (progress : Progress) (ids : List Id) (it : ListCode) → is_end placed.called ≡ true
+pub end_entered : (run : Run) (choice : Choice) (placed : Placed) (handed : Handed) (progress : Progress) (ids : List Id) (it : ListCode) → is_end placed.called ≡ true
     → has_report report.Failed placed.entry ≡ false → ids ≡ progress.late → Stands handed (after_step progress placed.line (WaitsForAll ids)) it
     → Entered (Ok true) (outcome_of run choice placed) handed progress placed.line it
 end_entered run choice placed handed progress ids it e failed late stands =
     subst (λ (one : Outcome). Entered (Ok true) one handed progress placed.line it) (sym (ended_is run choice placed e failed))
     (refl, (refl, subst (λ (one : Progress). Stands handed one it) (late_same progress placed.line ids late) stands))
 
-pub end_stops : (A : Type 0) (run : Run) (choice : Choice) (placed : Placed) (handed : List Call) (progress : Progress) (ids : List Id) (stop : Stop) (it : ListCode)
+pub end_stops : (A : Type 0) (run : Run) (choice : Choice) (placed : Placed) (handed : Handed) (progress : Progress) (ids : List Id) (stop : Stop) (it : ListCode)
     → is_end placed.called ≡ true → has_report report.Failed placed.entry ≡ false → ids ≡ progress.late
     → ComesTo {A = A} (Err stop) handed (after_step progress placed.line (WaitsForAll ids)) placed.line it
     → Entered (Err stop) (outcome_of run choice placed) handed progress placed.line it
@@ -151,11 +150,11 @@ end_stops A run choice placed handed progress ids stop it e failed late comes =
 
 -- ---- Any other call ----
 
-pub memory_entered : (outcome : Outcome) (handed : List Call) (progress : Progress) (line : ℕ) (it : ListCode) → Entered (Err Memory) outcome handed progress line it
+pub memory_entered : (outcome : Outcome) (handed : Handed) (progress : Progress) (line : ℕ) (it : ListCode) → Entered (Err Memory) outcome handed progress line it
 memory_entered (GoesOn steps) handed progress line it = tt
 memory_entered (Ends steps end why) handed progress line it = tt
 
-ends_as : (A : Type 0) (stop : Stop) (handed : List Call) (progress : Progress) (line : ℕ) (why : Option Why) (it : ListCode)
+ends_as : (A : Type 0) (stop : Stop) (handed : Handed) (progress : Progress) (line : ℕ) (why : Option Why) (it : ListCode)
     → EndsAt {A = A} (Err stop) handed progress line why it → EndsAt {A = Bool} (Err stop) handed progress line why it
 ends_as A (Left TooLong) handed progress line why it is = is
 ends_as A Memory handed progress line why it is = tt
@@ -170,7 +169,7 @@ ends_as A (Left Full) handed progress line why it is = is
 ends_as A (Left NoJournal) handed progress line why it is = is
 
 -- it stops where its call does
-pub taken_stops : (A : Type 0) (outcome : Outcome) (stop : Stop) (handed : List Call) (progress : Progress) (line : ℕ) (it : ListCode)
+pub taken_stops : (A : Type 0) (outcome : Outcome) (stop : Stop) (handed : Handed) (progress : Progress) (line : ℕ) (it : ListCode)
     → Follows {A = A} outcome (Err stop) handed progress line it → Entered (Err stop) outcome handed progress line it
 taken_stops A (GoesOn steps) stop handed progress line it follows =
     let after = after_steps progress line steps in
@@ -178,7 +177,7 @@ taken_stops A (GoesOn steps) stop handed progress line it follows =
 taken_stops A (Ends steps end why) stop handed progress line it follows = ends_as A stop handed (after_steps progress line steps) line why it follows
 
 -- it goes on where its call does
-pub taken_goes : (A : Type 0) (done : A) (outcome : Outcome) (handed : List Call) (progress : Progress) (line : ℕ) (it : ListCode)
+pub taken_goes : (A : Type 0) (done : A) (outcome : Outcome) (handed : Handed) (progress : Progress) (line : ℕ) (it : ListCode)
     → Follows {A = A} outcome (Ok done) handed progress line it → Entered (Ok false) outcome handed progress line it
 taken_goes A done (GoesOn steps) handed progress line it follows = follows
 taken_goes A done (Ends steps end why) handed progress line it follows = follows

@@ -3,7 +3,6 @@ use Rattle.std.proofs.Common.{◌≡◌, ◌∙◌, refl, sym, ap, subst, arith,
 use Rattle.std.specs.Prelude.{IfSome, slice_get}
 use Rattle.std.specs.List.{Contains}
 use Rattle.std.proofs.lemmas.Option.{get_or_from_slice_get, slice_get_within}
-use Rattle.mpicall.specs.declared.call.Call.{Call}
 use Rattle.journals.specs.Journal.{Journal}
 use Rattle.journals.specs.Known.{has_report, report_of, requests_in}
 use Rattle.journals.specs.Lines.{Line}
@@ -19,7 +18,7 @@ use Rattle.closing.specs.Fit.{AllFit, AllSame, AreChosen, AreNumbers, EntriesFit
 use Rattle.closing.specs.Recording.{GoesOn, Outcome, is_end, outcome_of}
 use Rattle.closing.specs.Steps.{Id, Own, Progress, Step, after_steps}
 use Rattle.closing.specs.Table.{Table}
-use Rattle.closing.specs.inner.Lists.{Stands}
+use Rattle.closing.specs.inner.Lists.{Handed, Stands}
 use Rattle.closing.specs.inner.Makers.{MayMake}
 use Rattle.closing.specs.inner.Noted.{reports_in}
 use Rattle.closing.specs.inner.RequestReports.{AllStandFor, Tells}
@@ -120,7 +119,7 @@ module _ (run : Run) (choice : Choice) (journal : Journal) (rank place : ℕ) (w
       stands : (request : ℕ) → Own (id_in standing request) ≡ id_of (lines_before placed) request
       stands request = id_same (lines_before placed) standing request (has request ∙ ap (λ (lines : List Line). matched_message lines request) (sym before_is))
 
-  module _ (handed : List Call) (progress : Progress) (entries : EntriesFit run choice progress (entries_left rank journal place))
+  module _ (handed : Handed) (progress : Progress) (entries : EntriesFit run choice progress (entries_left rank journal place))
       (tests : TestsFit run choice progress (entries_left rank journal place)) where
     entries_are : entries_left rank journal place ≡ placed ∷ entries_left rank journal (place + 1)
     entries_are = entries_at_call rank journal place word call
@@ -167,7 +166,7 @@ module _ (run : Run) (choice : Choice) (journal : Journal) (rank place : ℕ) (w
 
 -- ---- All that is known after it ----
 
-module _ (run : Run) (choice : Choice) (placed : Placed) (handed : List Call) (progress : Progress) (old now : Table) (place : ℕ) (walk : Walk) where
+module _ (run : Run) (choice : Choice) (placed : Placed) (handed : Handed) (progress : Progress) (old now : Table) (place : ℕ) (walk : Walk) where
   -- the list has ended at it, or memory ran out
   pub is_stopped : (result : Result Bool Stop) (stop : Stop) → result ≡ Err stop → Entered (Err stop) (outcome_of run choice placed) handed progress placed.line walk.list
       → ((stop ≡ Memory → ⊥) → Grows old now) → IsEntered run choice placed result handed progress old now place walk

@@ -1,5 +1,5 @@
 -- The list of a rank as an entry is taken: by its steps, one after the other, or to its end.
-use Rattle.std.proofs.Common.{rules, ◌≡◌, refl, sym, ◌∙◌, ap, subst, ℕ, ◌≤◌, ◌-◌, Bool, true, false, ◌&&◌, if◌then◌else◌, Option, Some, None, Result, Ok, Err, List, [], ◌∷◌, pos, negsuc, lt-ltb, arith}
+use Rattle.std.proofs.Common.{rules, ◌≡◌, refl, sym, ◌∙◌, ap, subst, ℕ, ◌≤◌, Bool, true, false, ◌&&◌, if◌then◌else◌, Option, Some, None, Result, Ok, Err, List, [], ◌∷◌, pos, negsuc, lt-ltb, arith}
 use Rattle.std.proofs.lemmas.Bool.{ltb-true}
 use Rattle.std.proofs.lemmas.Result.{err_from_is_err_and}
 use Rattle.std.specs.Result.{IsErrAnd}
@@ -10,7 +10,7 @@ use Rattle.mpicall.specs.declared.call.Call.TheVariants.{Open}
 use Rattle.closing.specs.Steps.{Id, Own, Whole, ReceiveHalf, Progress, Step, Does, Starts, number_in, after_step}
 use Rattle.closing.specs.Recording.{Outcome, GoesOn, Ends}
 use Rattle.closing.specs.Reported.{peer_can_be}
-use Rattle.closing.specs.inner.Lists.{Stands, ComesTo, IsUnnamed, start_call}
+use Rattle.closing.specs.inner.Lists.{Handed, Stands, ComesTo, IsUnnamed, start_call}
 use Rattle.closing.specs.inner.Views.{message_view}
 use Rattle.mpicall.specs.declared.call.Mode.{Mode}
 use Rattle.closing.specs.Called.{Sent, Awaited}
@@ -87,7 +87,7 @@ nothing_put done spot it = λ handed progress stands fits. stands
 
 abbrev pub Doing : {B : Type 0} → Call → Result B Stop → ListCode → ListCode → Type 0
 Doing call result old new =
-    (handed : List Call) (progress : Progress) (line : ℕ) → Stands handed progress old → IsTrue (in_ranges call)
+    (handed : Handed) (progress : Progress) (line : ℕ) → Stands handed progress old → IsTrue (in_ranges call)
     → ComesTo result handed (after_step progress line (Does call)) line new
 
 pub puts : {B : Type 0} (spot : Spot) (call said : Call) (result : Result B Stop) (old new : ListCode)
@@ -98,7 +98,7 @@ puts {B} spot call said result old new e does =
 
 abbrev pub StartingUnnamed : {B : Type 0} → Start → Result B Stop → ListCode → ListCode → Type 0
 StartingUnnamed start result old new =
-    (handed : List Call) (progress : Progress) (line : ℕ) (id : Id) → Stands handed progress old → IsTrue (in_ranges (start_call start 0))
+    (handed : Handed) (progress : Progress) (line : ℕ) (id : Id) → Stands handed progress old → IsTrue (in_ranges (start_call start 0))
     → IsUnnamed id → ComesTo result handed (after_step progress line (Starts id (start_call start))) line new
 
 pub starts_whole : {B : Type 0} (spot : Spot) (start : Start) (said : ℕ → Call) (result : Result B Stop) (old new : ListCode)
@@ -115,7 +115,7 @@ starts_half {B} spot start said result old new e starts =
 
 abbrev pub Starting : {B : Type 0} → ℕ → Start → Result B Stop → ListCode → ListCode → Type 0
 Starting id start result old new =
-    (handed : List Call) (progress : Progress) (line : ℕ) → Stands handed progress old → IsTrue (in_ranges (start_call start 0))
+    (handed : Handed) (progress : Progress) (line : ℕ) → Stands handed progress old → IsTrue (in_ranges (start_call start 0))
     → number_in progress.active (Own id) ≡ None → ComesTo result handed (after_step progress line (Starts (Own id) (start_call start))) line new
 
 pub starts_own : {B : Type 0} (spot : Spot) (id : ℕ) (start : Start) (said : ℕ → Call) (result : Result B Stop) (old new : ListCode)

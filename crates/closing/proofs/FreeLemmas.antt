@@ -1,5 +1,5 @@
 -- The least number that isn't in use, as one that is free again is taken, or a next one is given.
-use Rattle.std.proofs.Common.{◌≡◌, ◌∙◌, ◌<◌, ◌≤◌, ◌+◌, ◌&&◌, ◌||◌, ℕ, Bool, true, false, cond, refl, sym, arith, List, [], ◌∷◌, length, inl, inr, eqb, ltb, lt-ltb, le-ltb}
+use Rattle.std.proofs.Common.{◌≡◌, ◌∙◌, ◌<◌, ◌≤◌, ◌+◌, ℕ, Bool, true, false, cond, refl, sym, arith, List, [], ◌∷◌, length, inl, inr, eqb, ltb, lt-ltb, le-ltb}
 use Rattle.std.proofs.lemmas.Bool.{cases_lt, cases_eq, cases_order, cond-true, cond-false, eq-eqb, ne_eqb, ltb-false, and_from, and_left, and_right, or_left, or_right, or_from}
 use Rattle.std.proofs.lemmas.List.Sums.{sum_by-cons}
 use Rattle.std.proofs.lemmas.List.Sorted.{sum_by_popped}

@@ -1,6 +1,6 @@
 -- What is in use as the number of a request is free again.
-use Rattle.std.proofs.Common.{◌≡◌, ◌∙◌, ◌<◌, ◌≤◌, ◌+◌, ◌&&◌, ◌||◌, ℕ, Bool, true, false, not, cond, refl, sym, ap, arith, List, [], ◌∷◌, inl, inr, eqb, ltb}
-use Rattle.std.proofs.lemmas.Bool.{cases_eq, cond-true, cond-false, eq-eqb, eqb-true, ltb-true, ne_eqb, and_parts}
+use Rattle.std.proofs.Common.{◌≡◌, ◌∙◌, ◌<◌, ◌+◌, ◌&&◌, ◌||◌, ℕ, Bool, true, false, not, cond, refl, sym, ap, arith, [], ◌∷◌, inl, inr, eqb, ltb}
+use Rattle.std.proofs.lemmas.Bool.{cases_eq, cond-false, eq-eqb, eqb-true, ltb-true, ne_eqb, and_parts}
 use Rattle.std.proofs.lemmas.List.Sorted.{sum_by_pushed}
 use Rattle.std.specs.BinaryHeap.{heap_items, KeepsHeap}
 use Rattle.std.specs.List.Sorted.{IsPermutation}

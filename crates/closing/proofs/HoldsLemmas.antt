@@ -17,7 +17,7 @@ use Rattle.journals.specs.declared.word.ReportWord.TheVariants as report
 use Rattle.closing.specs.Called.{naturals_in}
 use Rattle.closing.specs.Keys.{Key, World, Alone, key_count, group_count, same_key}
 use Rattle.closing.specs.RankComms.{RankComms, Wave, under, after_line, with_made, with_duplicated, with_apart}
-use Rattle.closing.specs.inner.Holds.{IsCounted, HasComms, times_in, reported_line, report_taken, apart_taken}
+use Rattle.closing.specs.inner.Holds.{key_kept, IsCounted, HasComms, times_in, reported_line, report_taken, apart_taken}
 use Rattle.closing.specs.Table.{Table}
 use Rattle.closing.specs.inner.Table.{Grows, HasKey, HasGroup, IsTable, IsPlaceOf, IsWaveOf}
 use Rattle.closing.specs.declared.rank_comms.RankComms.{RankComms as CommsCode}
@@ -119,7 +119,7 @@ module _ {A : Type 0} where
 pub comms_grow : (a b : Table) (it : CommsCode) (comms : RankComms) → Grows a b → HasComms a it comms → HasComms b it comms
 comms_grow a b it comms grows is = record {
   table_is = grows.table;
-  numbers = λ n. place_grows a b (get nat_eq it.numbers n) (under n comms.numbers) grows (is.numbers n);
+  numbers = λ n. place_grows a b (key_kept it.numbers n) (under n comms.numbers) grows (is.numbers n);
   waves = counted_grows (HasKey a) (HasKey b) grows.keys it.waves comms.waves is.waves;
   duplicates = λ n. wave_grows a b (get nat_eq it.duplicates n) (under n comms.duplicates) grows (is.duplicates n);
   groups = counted_grows (HasGroup a) (HasGroup b) grows.groups it.groups comms.groups is.groups;

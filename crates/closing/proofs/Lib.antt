@@ -1,12 +1,16 @@
 mod Rows
 pub mod ChoiceLemmas
 pub mod FreeLemmas
+mod FreedIds
+mod FreedPlaces
 pub mod FreedLemmas
 pub mod LeastLemmas
 pub mod InsertLemmas
 pub mod ListLemmas
 pub mod OutcomeLemmas
 pub mod PlaceLemmas
+pub mod PlainLemmas
+pub mod RankNumberLemmas
 pub mod RequestLemmas
 pub mod LastLemmas
 pub mod NumberLemmas

@@ -11,7 +11,7 @@ use Rattle.mpicall.specs.declared.limits.TheConstants.{MOST_REQUESTS}
 use Rattle.closing.specs.Steps.{Written, Progress, Step, Does, Starts, WaitsForAll, WaitsForOne, PutsOff, WaitsForLate, number_in, numbers_of, least_free, plain, waits_for, wait_for_one, after_step, after_steps, wait_one}
 use Rattle.closing.specs.Recording.{Listed, cut, ended, most_records}
 use Rattle.closing.specs.Recordings.{line_at}
-use Rattle.closing.specs.inner.Lists.{IsCut, calls_in}
+use Rattle.closing.specs.inner.Lists.{Handed, HasPlaces, IsCut, calls_in}
 use Rattle.closing.specs.inner.SoFar.{AreOfLine, HasCalls}
 use Rattle.closing.specs.declared.list.List.{List as ListCode}
 use Rattle.closing.specs.declared.why.Why.{Why}
@@ -142,10 +142,11 @@ calls_so_far it handed items records more before line e few calls lines =
 
 -- ---- At the end ----
 
-pub record IsEnded (it : Listed) (handed items : List Call) (before line : ℕ) (why : Option Why) : Type 0 where
-  pub has : HasCalls it handed items [] before line
+pub record IsEnded (it : Listed) (handed : Handed) (list : ListCode) (end : Call) (before line : ℕ) (why : Option Why) : Type 0 where
+  pub has : HasCalls it handed.calls (list.records.items ++ end ∷ []) [] before line
   pub line_is : it.line ≡ line
   pub why_is : it.why ≡ why
+  pub places : HasPlaces handed.frees it.records list.freed
 
 with_end : (handed items : List Call) (end : Call) → (handed ++ items) ++ end ∷ [] ≡ handed ++ ((items ++ end ∷ []) ++ [])
 with_end handed items end =
@@ -157,20 +158,21 @@ ended_line it before line place e lines from (inl within) = line_of_record it pl
 ended_line it before line place e lines from (inr past) = line_of_end it place line past e
 
 -- a list that ends here has these calls with its end
-pub calls_ended : (q : Progress) (handed items : List Call) (end : Call) (before line : ℕ) (why : Option Why) → length q.records < most_records
-    → calls_in q.records ≡ handed ++ items → AreOfLine line before q.records
-    → IsEnded (cut (ended q end line why)) handed (items ++ end ∷ []) before line why
-calls_ended q handed items end before line why few calls lines =
+pub calls_ended : (q : Progress) (handed : Handed) (list : ListCode) (end : Call) (before line : ℕ) (why : Option Why) → length q.records < most_records
+    → calls_in q.records ≡ handed.calls ++ list.records.items → HasPlaces handed.frees q.records list.freed → AreOfLine line before q.records
+    → IsEnded (cut (ended q end line why)) handed list end before line why
+calls_ended q handed list end before line why few calls places lines =
     let whole = ended q end line why in
     let same : cut whole ≡ whole = cut_short whole few in
-    subst (λ (it : Listed). IsEnded it handed (items ++ end ∷ []) before line why) (sym same)
+    subst (λ (it : Listed). IsEnded it handed list end before line why) (sym same)
     (record {
       has = record {
-        calls = ap (λ xs. xs ++ end ∷ []) calls ∙ with_end handed items end;
+        calls = ap (λ xs. xs ++ end ∷ []) calls ∙ with_end handed.calls list.records.items end;
         lines = λ place from within. ended_line whole before line place refl lines from (cases_lt place (length q.records));
       };
       line_is = refl;
       why_is = refl;
+      places = places;
     })
 
 taken_lines : (it : Listed) (q : Progress) (more : List Written) (before line : ℕ) → it.records ≡ q.records ++ more → most_records ≤ length q.records
@@ -182,9 +184,9 @@ taken_lines it q more before line e long lines = λ place from within.
     ∙ lines place from (omega (arith, below, long))
 
 -- a list that is cut here
-pub calls_cut : (it : Listed) (q : Progress) (more : List Written) (handed : List Call) (list : ListCode) (before line : ℕ) → it.records ≡ q.records ++ more
+pub calls_cut : (it : Listed) (q : Progress) (more : List Written) (handed : Handed) (list : ListCode) (before line : ℕ) → it.records ≡ q.records ++ more
     → IsCut handed q line list → AreOfLine line before q.records
-    → IsEnded (cut it) handed (list.records.items ++ Open ∷ []) before line (Some TooLong)
+    → IsEnded (cut it) handed list Open before line (Some TooLong)
 calls_cut it q more handed list before line e is lines =
     let long : most_records ≤ length it.records = rw e (omega (arith, is.long, length-append q.records more)) in
     let at = cut_is it handed (record q { records = it.records }) line list refl (cut_grown q more handed line list it.records e is) in
@@ -193,13 +195,14 @@ calls_cut it q more handed list before line e is lines =
     subst (λ (xs : List Written). AreOfLine line before xs) (sym made) (taken_lines it q more before line e is.long lines) in
     record {
       has = record {
-        calls = at.calls ∙ ap (λ xs. handed ++ xs) (sym (append-nil (list.records.items ++ Open ∷ [])));
+        calls = at.calls ∙ ap (λ xs. handed.calls ++ xs) (sym (append-nil (list.records.items ++ Open ∷ [])));
         lines = λ place from within. ended_line (cut it) before line place at.line_is there from (cases_lt place (length (cut it).records));
       };
       line_is = at.line_is;
       why_is = at.why;
+      places = at.places;
     }
   where
-    cut_grown : (q : Progress) (more : List Written) (handed : List Call) (line : ℕ) (list : ListCode) (records : List Written) → records ≡ q.records ++ more
+    cut_grown : (q : Progress) (more : List Written) (handed : Handed) (line : ℕ) (list : ListCode) (records : List Written) → records ≡ q.records ++ more
         → IsCut handed q line list → IsCut handed (record q { records = records }) line list
     cut_grown q more handed line list records e is = cut_on handed q (record q { records = records }) line list (more, e) is

@@ -56,7 +56,7 @@ take_both (suc n) k (x ∷ xs) =
     let one : suc n + k ≡ suc (n + k) = omega arith in
     ap (λ m. take m (x ∷ xs)) one ∙ ap (λ others. x ∷ others) (take_both n k xs)
 
-by_call : (it : Called) (before : ℕ → Option ℕ) (request : ℕ) → or_else (before request) (matched_by request it) ≡ message_after it before request
+pub by_call : (it : Called) (before : ℕ → Option ℕ) (request : ℕ) → or_else (before request) (matched_by request it) ≡ message_after it before request
 by_call (StartsMatched started message) before request = refl
 by_call _ before request = or_none (before request)
 

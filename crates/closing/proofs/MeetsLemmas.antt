@@ -1,22 +1,19 @@
 -- What a walk has at an entry is what the entry's call meets: its communicators are the run's, and small.
-use Rattle.std.proofs.Common.{◌≡◌, ◌∙◌, refl, eq-eqb, sym, ap, subst, inl, inr, ℕ, ◌<◌, Bool, true, false, ◌&&◌, cond, if◌then◌else◌, List, [], ◌∷◌, ◌++◌, length, option_map, option_and_then, Option, Some, None}
+use Rattle.std.proofs.Common.{◌≡◌, ◌∙◌, refl, eq-eqb, sym, ap, inl, inr, ℕ, ◌<◌, Bool, true, false, ◌&&◌, if◌then◌else◌, List, [], ◌∷◌, length, option_and_then, Option, Some, None}
 use Rattle.std.specs.Prelude.{slice_get, filter}
 use Rattle.std.specs.List.{filter_map, flat_map, list_any}
 use Rattle.mpicall.specs.Word.{or_else}
 use Rattle.journals.specs.Lines.{Line}
-use Rattle.journals.specs.Known.{report_of, requests_in}
-use Rattle.journals.specs.declared.word.ReportWord.TheVariants as report
 use Rattle.closing.specs.Entries.{Run, Placed, entries_at, journal_at, lines_at, ranks_of}
 use Rattle.closing.specs.Entry.{Choice, id_of}
-use Rattle.closing.specs.Fit.{AllSame, AreChosen, NamesKnown, lines_before}
-use Rattle.closing.specs.FitComms.{HasFitComms, comms_are_numbered}
+use Rattle.closing.specs.Fit.{AllSame}
+use Rattle.closing.specs.FitComms.{comms_are_numbered}
 use Rattle.closing.specs.Keys.{Key, World, is_key_among, same_key}
-use Rattle.closing.specs.Made.{inferred_key, key_made, keys_at, made_with, reported_group, reported_key, wave_at}
-use Rattle.closing.specs.Numbers.{named_key}
+use Rattle.closing.specs.Made.{inferred_key, keys_at, made_with, reported_group, reported_key, wave_at}
 use Rattle.closing.specs.RankComms.{Wave, made_in, makes_comm}
 use Rattle.closing.specs.Steps.{Own}
-use Rattle.closing.specs.inner.Makers.{IsMaking, IsSmall, MayMake, MeetsMaker}
-use Rattle.closing.specs.inner.Numbered.{IsNumberedRun, is_known}
+use Rattle.closing.specs.inner.Makers.{MayMake, MeetsMaker}
+use Rattle.closing.specs.inner.Numbered.{is_known}
 use Rattle.closing.specs.inner.RequestReports.{AllStandFor}
 use Rattle.closing.specs.inner.SoFar.{IsAtEntry}
 use Rattle.closing.specs.inner.Standings.{id_in}

@@ -1,10 +1,9 @@
 -- An entry takes no record away.
-use Rattle.std.proofs.Common.{◌≡◌, ◌∙◌, refl, sym, ap, arith, ℕ, ◌+◌, ◌-◌, ◌≤◌, Bool, true, false, List, length, take, length-append, Option, Result, Ok, Err}
+use Rattle.std.proofs.Common.{◌≡◌, ◌∙◌, refl, sym, ap, arith, ℕ, ◌+◌, ◌-◌, ◌≤◌, Bool, true, false, length, take, length-append, Option, Result, Ok, Err}
 use Rattle.std.proofs.lemmas.List.{length-map, length-take-le}
-use Rattle.mpicall.specs.declared.call.Call.{Call}
 use Rattle.closing.specs.Steps.{Progress, after_steps}
 use Rattle.closing.specs.Recording.{Ends, GoesOn, Outcome}
-use Rattle.closing.specs.inner.Lists.{ComesTo, IsCut, Stands, calls_in}
+use Rattle.closing.specs.inner.Lists.{Handed, ComesTo, IsCut, Stands, calls_in}
 use Rattle.closing.specs.inner.SoFar.{Entered}
 use Rattle.closing.specs.inner.Walked.{EndsAt}
 use Rattle.closing.specs.declared.list.List.{List as ListCode}
@@ -15,13 +14,13 @@ use Rattle.closing.specs.declared.why.Why.{Why}
 use Rattle.closing.specs.declared.why.Why.TheVariants.{NeverCameBack, NeverReported, Failed, NoNumber, TooLong, CannotBe, Stopped, Aborted, Full, NoJournal}
 use Rattle.closing.proofs.GrownLemmas.{Grown, grown_all}
 
-module _ (handed : List Call) (p : Progress) (old new : ListCode) (before : Stands handed p old) where
+module _ (handed : Handed) (p : Progress) (old new : ListCode) (before : Stands handed p old) where
   abbrev IsMore : Type 0
   IsMore = length old.records.items ≤ length new.records.items
 
   -- as many as were handed on and weren't
-  count_of : (q : Progress) (it : ListCode) → Stands handed q it → length q.records ≡ length handed + length it.records.items
-  count_of q it stands = sym (length-map q.records (λ one. one.call)) ∙ ap length stands.records ∙ length-append handed it.records.items
+  count_of : (q : Progress) (it : ListCode) → Stands handed q it → length q.records ≡ length handed.calls + length it.records.items
+  count_of q it stands = sym (length-map q.records (λ one. one.call)) ∙ ap length stands.records ∙ length-append handed.calls it.records.items
 
   stands_more : (q : Progress) → Grown p q → Stands handed q new → IsMore
   stands_more q grown stands =
@@ -31,7 +30,7 @@ module _ (handed : List Call) (p : Progress) (old new : ListCode) (before : Stan
   cut_more : (q : Progress) (line : ℕ) → IsCut handed q line new → IsMore
   cut_more q line cut =
       let long : MOST_RECORDS - 1 ≤ length (calls_in q.records) = omega (arith, cut.long, length-map q.records (λ one. one.call)) in
-      let count : length (take (MOST_RECORDS - 1) (calls_in q.records)) ≡ length handed + length new.records.items = ap length cut.records ∙ length-append handed new.records.items in
+      let count : length (take (MOST_RECORDS - 1) (calls_in q.records)) ≡ length handed.calls + length new.records.items = ap length cut.records ∙ length-append handed.calls new.records.items in
       let most : length (take (MOST_RECORDS - 1) (calls_in q.records)) ≡ MOST_RECORDS - 1 = length-take-le (MOST_RECORDS - 1) (calls_in q.records) long in
       omega (arith, count, most, count_of p old before, before.count, before.short)
 

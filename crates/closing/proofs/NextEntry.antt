@@ -117,14 +117,15 @@ module _ (run : Run) (choice : Choice) (journal : Journal) (kept : Communicators
 
       -- it ends with the rank's calls
       pub step_ends : (new : Walk) → result ≡ Ok true → new ≡ record one { list = new.list; is_over = true }
-          → new.list.records.items ≡ one.list.records.items ++ Finalize ∷ [] → IsWalk run choice now new × Grows kept.keys now
-      step_ends new e ended items = (
+          → new.list.records.items ≡ one.list.records.items ++ Finalize ∷ [] → new.list.freed ≡ one.list.freed → IsWalk run choice now new × Grows kept.keys now
+      step_ends new e ended items freed = (
         final_walk run choice journal kept.keys old so_far there word call now one.list new (list_as (Ok true) e) (record {
           rank = ap (λ (it : Walk). it.rank) ended ∙ ap (λ (it : Walk). it.rank) same;
           handed = ap (λ (it : Walk). it.handed) ended ∙ ap (λ (it : Walk). it.handed) same;
           before = ap (λ (it : Walk). it.before) ended ∙ ap (λ (it : Walk). it.before) same ∙ before_is;
           line_is = ap (λ (it : Walk). it.line) ended ∙ ap (λ (it : Walk). it.line) same ∙ line_is;
           items_are = items;
+          freed = freed;
           left = ap (λ (it : Walk). it.left) ended ∙ ap (λ (it : Walk). it.left) same ∙ so_far.left;
           over = ap (λ (it : Walk). it.is_over) ended;
         }),
@@ -133,8 +134,8 @@ module _ (run : Run) (choice : Choice) (journal : Journal) (kept : Communicators
 
       -- it is left
       pub step_leaves : (new : Walk) (why : Why) → result ≡ Err (Left why) → new ≡ record one { list = new.list; is_over = true; left = Some (record { line = one.line; why = why }) }
-          → new.list.records.items ≡ one.list.records.items ++ Open ∷ [] → IsWalk run choice now new × Grows kept.keys now
-      step_leaves new why e ended items =
+          → new.list.records.items ≡ one.list.records.items ++ Open ∷ [] → new.list.freed ≡ one.list.freed → IsWalk run choice now new × Grows kept.keys now
+      step_leaves new why e ended items freed =
           let at : one.line ≡ old.next + 2 = ap (λ (it : Walk). it.line) same ∙ line_is in (
             broken_walk run choice journal kept.keys old so_far there word call now one.list why new (list_as (Err (Left why)) e) (record {
               rank = ap (λ (it : Walk). it.rank) ended ∙ ap (λ (it : Walk). it.rank) same;
@@ -142,6 +143,7 @@ module _ (run : Run) (choice : Choice) (journal : Journal) (kept : Communicators
               before = ap (λ (it : Walk). it.before) ended ∙ ap (λ (it : Walk). it.before) same ∙ before_is;
               line_is = ap (λ (it : Walk). it.line) ended ∙ at;
               items_are = items;
+              freed = freed;
               left = ap (λ (it : Walk). it.left) ended ∙ ap (λ (n : ℕ). left_as n (Some why)) at;
               over = ap (λ (it : Walk). it.is_over) ended;
             }),
@@ -157,14 +159,15 @@ module _ (run : Run) (choice : Choice) (journal : Journal) (kept : Communicators
 
   pub step_opens : (new : Walk) → ((word : CallWord) → word_at journal.lines old.next ≡ Some (CallLine word) → ⊥)
       → new.rank ≡ old.rank → new.handed ≡ old.handed → new.before ≡ old.handed + length old.list.records.items → new.line ≡ 0 → new.left ≡ old.left → new.is_over ≡ true
-      → new.list.records.items ≡ old.list.records.items ++ Open ∷ [] → IsWalk run choice kept.keys new
-  step_opens new none rank handed before line left over items =
+      → new.list.records.items ≡ old.list.records.items ++ Open ∷ [] → new.list.freed ≡ old.list.freed → IsWalk run choice kept.keys new
+  step_opens new none rank handed before line left over items freed =
       opened_walk run choice journal kept.keys old so_far there new none (record {
         rank = rank;
         handed = handed;
         before = before;
         line_is = line;
         items_are = items;
+        freed = freed;
         left = left ∙ so_far.left;
         over = over;
       })

@@ -10,14 +10,17 @@ use Rattle.journals.specs.Taking.{word_at}
 use Rattle.journals.specs.declared.word.CallWord.{CallWord}
 use Rattle.journals.specs.declared.word.Word.{Word}
 use Rattle.journals.specs.declared.word.Word.TheVariants.{Call as CallLine, Report}
-use Rattle.closing.specs.Entries.{Run, journal_at}
+use Rattle.closing.specs.Entries.{Run, journal_at, lines_at, lines_in}
 use Rattle.closing.specs.Entry.{Choice}
-use Rattle.closing.specs.Recording.{GoesOn, cut, list_of, most_records, outcome_of, whole_list}
-use Rattle.closing.specs.Steps.{Step, after_steps}
+use Rattle.closing.specs.Freed.{is_freed}
+use Rattle.closing.specs.Recording.{Listed, GoesOn, cut, list_of, most_records, outcome_of, whole_list}
+use Rattle.closing.specs.Steps.{Id, Step, Written, after_steps}
 use Rattle.closing.specs.Table.{Table}
 use Rattle.closing.specs.inner.Holds.{HasComms}
+use Rattle.closing.specs.inner.Lists.{HasPlaces}
 use Rattle.closing.specs.inner.Noted.{reports_in}
 use Rattle.closing.specs.inner.SoFar.{Entered, IsOn, IsPart, IsSoFar, IsWalk, StaysOn, comms_at, placed_here}
+use Rattle.closing.specs.declared.freed.Freed.{Freed}
 use Rattle.closing.specs.declared.list.List.{List as ListCode}
 use Rattle.closing.specs.declared.stop.Stop.TheVariants.{Left}
 use Rattle.closing.specs.declared.walk.Walk.{Walk}
@@ -25,7 +28,7 @@ use Rattle.closing.specs.declared.why.Why.{Why}
 use Rattle.closing.proofs.LastLemmas.{drop_none}
 use Rattle.closing.proofs.LineLemmas.{IsEnded}
 use Rattle.closing.proofs.PlacedLemmas.{no_report_there}
-use Rattle.closing.proofs.WalkLemmas.{IsNext, ended_open, entry_ends, entry_goes_on, entry_leaves, left_as, part_of_ended, part_of_on}
+use Rattle.closing.proofs.WalkLemmas.{IsNext, ended_open, entry_ends, entry_goes_on, entry_leaves, left_as, list_is_cut, part_of_ended, part_of_on}
 
 true_false : (b : Bool) → b ≡ true → b ≡ false → ⊥
 true_false true one other = cc (other)
@@ -48,12 +51,13 @@ none_left lines n e = by_line (slice_get lines n) refl
     by_line (Some line) at = let some = rw at at e in absurd (cc (some))
 
 -- what is known of a list that has ended
-pub record HasEnded (old : Walk) (line : ℕ) (items : List Call) (why : Option Why) (new : Walk) : Type 0 where
+pub record HasEnded (old : Walk) (line : ℕ) (list : ListCode) (end : Call) (why : Option Why) (new : Walk) : Type 0 where
   pub rank : new.rank ≡ old.rank
   pub handed : new.handed ≡ old.handed
   pub before : new.before ≡ old.handed + length old.list.records.items
   pub line_is : new.line ≡ line
-  pub items_are : new.list.records.items ≡ items
+  pub items_are : new.list.records.items ≡ list.records.items ++ end ∷ []
+  pub freed : new.list.freed ≡ list.freed
   pub left : new.left ≡ left_as line why
   pub over : new.is_over ≡ true
 
@@ -77,35 +81,48 @@ module _ (run : Run) (choice : Choice) (journal : Journal) (table : Table) (old 
   -- as many records are made as were handed on and weren't
   pub count_is : length so_far.progress.records ≡ old.handed + length old.list.records.items
   count_is =
-      let all : length so_far.progress.records ≡ length so_far.handed + length old.list.records.items =
-      sym (length-map so_far.progress.records (λ it. it.call)) ∙ ap length so_far.stands.records ∙ length-append so_far.handed old.list.records.items in
+      let all : length so_far.progress.records ≡ length so_far.handed.calls + length old.list.records.items =
+      sym (length-map so_far.progress.records (λ it. it.call)) ∙ ap length so_far.stands.records ∙ length-append so_far.handed.calls old.list.records.items in
       omega (arith, all, so_far.count)
 
   pub count_small : old.handed + length old.list.records.items < most_records
   count_small = omega (arith, count_is, so_far.stands.count, so_far.stands.short)
 
-  ended_walk : (now : Table) (line : ℕ) (items : List Call) (why : Option Why) (new : Walk) → HasEnded old line items why new
-      → IsEnded (cut (whole_list run choice old.rank)) so_far.handed items (old.handed + length old.list.records.items) line why → IsWalk run choice now new
-  ended_walk now line items why new is ended =
-      let here : IsEnded (cut (whole_list run choice old.rank)) so_far.handed items new.before new.line why = rw (is.before, is.line_is) ended in
+  ended_walk : (now : Table) (line : ℕ) (list : ListCode) (end : Call) (why : Option Why) (new : Walk) → HasEnded old line list end why new
+      → IsEnded (cut (whole_list run choice old.rank)) so_far.handed list end (old.handed + length old.list.records.items) line why → IsWalk run choice now new
+  ended_walk now line list end why new is ended =
+      let here : IsEnded (cut (whole_list run choice old.rank)) so_far.handed list end new.before new.line why = rw (is.before, is.line_is) ended in
       let left : new.left ≡ left_as new.line why = is.left ∙ ap (λ n. left_as n why) (sym is.line_is) in
-      let part = part_of_ended run choice old.rank journal so_far.handed items why new there here is.items_are (so_far.count ∙ sym is.handed) left in
+      let part = part_of_ended run choice old.rank journal so_far.handed list end why new there here is.items_are (so_far.count ∙ sym is.handed) left in
       record {
         part = subst (λ (rank : ℕ). IsPart (list_of run choice rank) new) (sym is.rank) part;
         on = λ goes. absurd (true_false new.is_over is.over goes);
+        freed = λ over. subst (λ (rank : ℕ). HasPlaces (is_freed (lines_at run rank)) (list_of run choice rank).records new.list.freed) (sym is.rank) places;
       }
+    where
+      listed : (cut (whole_list run choice old.rank)).records ≡ (list_of run choice old.rank).records
+      listed = sym (ap (λ (it : Listed). it.records) (list_is_cut run choice old.rank journal there))
+
+      frees : so_far.handed.frees ≡ is_freed (lines_at run old.rank)
+      frees = so_far.frees ∙ ap is_freed (sym (ap lines_in there))
+
+      places : HasPlaces (is_freed (lines_at run old.rank)) (list_of run choice old.rank).records new.list.freed
+      places =
+          subst (λ (it : Freed). HasPlaces (is_freed (lines_at run old.rank)) (list_of run choice old.rank).records it) (sym is.freed)
+          (subst (λ (records : List Written). HasPlaces (is_freed (lines_at run old.rank)) records list.freed) listed
+          (subst (λ (f : Id → Bool). HasPlaces f (cut (whole_list run choice old.rank)).records list.freed) frees ended.places))
 
   -- where no call line is left it ends open
-  pub opened_walk : (new : Walk) → ((word : CallWord) → word_at journal.lines old.next ≡ Some (CallLine word) → ⊥) → HasEnded old 0 (old.list.records.items ++ Open ∷ []) None new
+  pub opened_walk : (new : Walk) → ((word : CallWord) → word_at journal.lines old.next ≡ Some (CallLine word) → ⊥) → HasEnded old 0 old.list Open None new
       → IsWalk run choice table new
-  opened_walk new none is = ended_walk table 0 (old.list.records.items ++ Open ∷ []) None new is ended
+  opened_walk new none is = ended_walk table 0 old.list Open None new is ended
     where
       no_word : (it : Option Word) → word_at journal.lines old.next ≡ it → word_at journal.lines old.next ≡ None
       no_word None at = at
       no_word (Some (CallLine word)) at = absurd (none word at)
       no_word (Some (Report word)) at = absurd (no_report_there journal.lines old.next word so_far.at_call at)
 
-      ended : IsEnded (cut (whole_list run choice old.rank)) so_far.handed (old.list.records.items ++ Open ∷ []) (old.handed + length old.list.records.items) 0 None
+      ended : IsEnded (cut (whole_list run choice old.rank)) so_far.handed old.list Open (old.handed + length old.list.records.items) 0 None
       ended =
           ended_open run choice journal table old (old.handed + length old.list.records.items) so_far
           (none_left journal.lines old.next (no_word (word_at journal.lines old.next) refl)) (omega (arith, count_is))
@@ -118,17 +135,17 @@ module _ (run : Run) (choice : Choice) (journal : Journal) (table : Table) (old 
 
     -- the rank's last call
     pub final_walk : (now : Table) (list : ListCode) (new : Walk) → Entered (Ok true) (outcome_of run choice (placed_here old.rank journal old.next word)) so_far.handed so_far.progress (old.next + 2) list
-        → HasEnded old (old.next + 2) (list.records.items ++ Finalize ∷ []) None new → IsWalk run choice now new
+        → HasEnded old (old.next + 2) list Finalize None new → IsWalk run choice now new
     final_walk now list new entered is =
-        ended_walk now (old.next + 2) (list.records.items ++ Finalize ∷ []) None new is
+        ended_walk now (old.next + 2) list Finalize None new is
         (entry_ends run choice journal table now old new word so_far call before list (omega (arith, count_is)) entered)
 
     -- one at which the list is left
     pub broken_walk : (now : Table) (list : ListCode) (why : Why) (new : Walk)
         → Entered (Err (Left why)) (outcome_of run choice (placed_here old.rank journal old.next word)) so_far.handed so_far.progress (old.next + 2) list
-        → HasEnded old (old.next + 2) (list.records.items ++ Open ∷ []) (Some why) new → IsWalk run choice now new
+        → HasEnded old (old.next + 2) list Open (Some why) new → IsWalk run choice now new
     broken_walk now list why new entered is =
-        ended_walk now (old.next + 2) (list.records.items ++ Open ∷ []) (Some why) new is
+        ended_walk now (old.next + 2) list Open (Some why) new is
         (entry_leaves run choice journal table now old new word so_far call before list why (omega (arith, count_is)) entered)
 
     pub next_walk : (now : Table) (new : Walk) → Entered (Ok false) (outcome_of run choice (placed_here old.rank journal old.next word)) so_far.handed so_far.progress (old.next + 2) new.list
@@ -137,6 +154,7 @@ module _ (run : Run) (choice : Choice) (journal : Journal) (table : Table) (old 
     next_walk now new entered stays is = record {
       part = part_of_on run choice now new on is.goes;
       on = λ goes. on;
+      freed = λ over. absurd (true_false new.is_over over is.goes);
     }
       where
         is_next : (steps : List Step) → StaysOn now journal.lines (place_after journal.lines old.next) (after_steps so_far.progress (old.next + 2) steps).late new

@@ -1,5 +1,5 @@
 -- The calls of a list that is cut where it is too long, by the records that it has so far.
-use Rattle.std.proofs.Common.{◌≡◌, ◌∙◌, sym, ap, subst, arith, ℕ, ◌+◌, ◌-◌, ◌<◌, ◌≤◌, List, [], ◌∷◌, ◌++◌, length, take, append_assoc, Option, Some, None, option_map, inl, inr, ◌⊎◌}
+use Rattle.std.proofs.Common.{◌≡◌, ◌∙◌, sym, ap, subst, arith, ℕ, ◌-◌, ◌<◌, ◌≤◌, List, [], ◌∷◌, ◌++◌, length, take, append_assoc, Option, Some, None, option_map, inl, inr, ◌⊎◌}
 use Rattle.std.specs.Prelude.{nat_lt, slice_get}
 use Rattle.std.proofs.lemmas.Bool.{cond-true, cond-false, lt-ltb, le-ltb, cases_lt}
 use Rattle.std.proofs.lemmas.List.{map-append, length-map, take-map}
@@ -7,7 +7,7 @@ use Rattle.mpicall.specs.declared.call.Call.{Call}
 use Rattle.mpicall.specs.declared.call.Call.TheVariants.{Open}
 use Rattle.closing.specs.Steps.{Written, Progress}
 use Rattle.closing.specs.Recording.{Listed, calls_of, cut, line_of, most_records}
-use Rattle.closing.specs.inner.Lists.{IsCut, calls_in}
+use Rattle.closing.specs.inner.Lists.{Handed, HasPlaces, IsCut, calls_in}
 use Rattle.closing.specs.declared.list.List.{List as ListCode}
 use Rattle.closing.specs.declared.why.Why.TheVariants.{TooLong}
 use Rattle.closing.proofs.ListLemmas.{take_past}
@@ -68,16 +68,17 @@ some_line None line e = absurd (cc (e))
 some_line (Some one) line e = cc
 
 -- what the list has of one that is cut within a line's records, before its end
-pub record IsCutAt (handed : List Call) (line : ℕ) (items : List Call) (it : Listed) : Type 0 where
-  pub calls : calls_of it ≡ handed ++ (items ++ Open ∷ [])
+pub record IsCutAt (handed : Handed) (line : ℕ) (list : ListCode) (it : Listed) : Type 0 where
+  pub calls : calls_of it ≡ handed.calls ++ (list.records.items ++ Open ∷ [])
   pub line_is : it.line ≡ line
   pub why : it.why ≡ Some TooLong
+  pub places : HasPlaces handed.frees it.records list.freed
 
-pub cut_is : (it : Listed) (handed : List Call) (progress : Progress) (line : ℕ) (list : ListCode)
-    → progress.records ≡ it.records → IsCut handed progress line list → IsCutAt handed line list.records.items (cut it)
+pub cut_is : (it : Listed) (handed : Handed) (progress : Progress) (line : ℕ) (list : ListCode)
+    → progress.records ≡ it.records → IsCut handed progress line list → IsCutAt handed line list (cut it)
 cut_is it handed progress line list same is =
     let long : most_records ≤ length it.records = subst (λ (xs : List Written). most_records ≤ length xs) same is.long in
-    let records : take (most_records - 1) (calls_in it.records) ≡ handed ++ list.records.items =
+    let records : take (most_records - 1) (calls_in it.records) ≡ handed.calls ++ list.records.items =
     ap (λ xs. take (most_records - 1) (calls_in xs)) (sym same) ∙ is.records in
     let ends : option_map (λ one. one.line) (slice_get it.records (most_records - 1)) ≡ Some line =
     ap (λ xs. option_map (λ one. one.line) (slice_get xs (most_records - 1))) (sym same) ∙ is.ends_at in
@@ -85,7 +86,10 @@ cut_is it handed progress line list same is =
       calls =
           ap calls_of (cut_long it long)
           ∙ ap (λ xs. xs ++ Open ∷ []) (sym (take-map (λ one. one.call) (most_records - 1) it.records) ∙ records)
-          ∙ append_assoc handed list.records.items (Open ∷ []);
+          ∙ append_assoc handed.calls list.records.items (Open ∷ []);
       line_is = ap (λ one. one.line) (cut_long it long) ∙ some_line (slice_get it.records (most_records - 1)) line ends;
       why = ap (λ one. one.why) (cut_long it long);
+      places =
+          subst (λ (xs : List Written). HasPlaces handed.frees xs list.freed)
+          (ap (take (most_records - 1)) same ∙ sym (ap (λ one. one.records) (cut_long it long))) is.places;
     }

@@ -13,7 +13,7 @@ use Rattle.closing.specs.Entries.{Run, ranks_of}
 use Rattle.closing.specs.Made.{keys_at}
 use Rattle.closing.specs.Recording.{progress_first}
 use Rattle.closing.specs.Steps.{Does, Progress, Written, after_step, plain}
-use Rattle.closing.specs.inner.Lists.{Stands}
+use Rattle.closing.specs.inner.Lists.{Handed, Stands}
 use Rattle.closing.specs.declared.list.List.{List as ListCode}
 use Rattle.closing.proofs.LineLemmas.{taken_count}
 use Rattle.closing.proofs.PlacedLemmas.{take_slice}
@@ -70,17 +70,17 @@ split_at run rank line keys e =
     slice_get-map (preface_split run rank 0) (preface_lines run) line ∙ ap (option_map (preface_split run rank 0)) e
 
 -- one line more
-pub line_put : (run : Run) (rank line : ℕ) (call : Call) (old new : ListCode) → slice_get (preface_of run rank) line ≡ Some call → IsTrue (list_all in_ranges (preface_of run rank))
-    → (IsTrue (in_ranges call) → old.count + 1 < 1000000 → Stands [] (after_step (with_lines line (preface_of run rank)) 0 (Does call)) new)
-    → Stands [] (with_lines line (preface_of run rank)) old → Stands [] (with_lines (line + 1) (preface_of run rank)) new
-line_put run rank line call old new at all puts stands =
+pub line_put : (handed : Handed) (run : Run) (rank line : ℕ) (call : Call) (old new : ListCode) → slice_get (preface_of run rank) line ≡ Some call → IsTrue (list_all in_ranges (preface_of run rank))
+    → (IsTrue (in_ranges call) → old.count + 1 < 1000000 → Stands handed (after_step (with_lines line (preface_of run rank)) 0 (Does call)) new)
+    → Stands handed (with_lines line (preface_of run rank)) old → Stands handed (with_lines (line + 1) (preface_of run rank)) new
+line_put handed run rank line call old new at all puts stands =
     let calls = preface_of run rank in
     let one : line + 1 ≡ suc line = omega arith in
     let more : plain 0 (take line calls) ++ plain 0 (call ∷ []) ≡ plain 0 (take (line + 1) calls) =
     sym (ap (plain 0) (ap (λ k. take k calls) one ∙ take_slice calls line call at) ∙ map-append {B = Written} (λ (it : Call). record { call = it; line = 0; starts = None }) (take line calls) (call ∷ [])) in
     let few : old.count + 1 < 1000000 =
     omega (arith, stands.count, length-map {B = Written} (take line calls) (λ (it : Call). record { call = it; line = 0; starts = None }), fewer line calls, preface_short run rank) in
-    subst (λ (xs : List Written). Stands [] (record { records = xs; active = []; late = [] }) new) more (puts (all_at calls line call at all) few)
+    subst (λ (xs : List Written). Stands handed (record { records = xs; active = []; late = [] }) new) more (puts (all_at calls line call at all) few)
   where
     fewer : (n : ℕ) (xs : List Call) → length (take n xs) ≤ length xs
     fewer zero xs = omega arith
@@ -88,8 +88,8 @@ line_put run rank line call old new at all puts stands =
     fewer (suc n) (x ∷ xs) = omega (arith, fewer n xs)
 
 -- all of them
-pub lines_put : (run : Run) (rank count : ℕ) (it : ListCode) → length (preface_lines run) ≤ count → Stands [] (with_lines count (preface_of run rank)) it → Stands [] (progress_first run rank) it
-lines_put run rank count it h stands =
+pub lines_put : (handed : Handed) (run : Run) (rank count : ℕ) (it : ListCode) → length (preface_lines run) ≤ count → Stands handed (with_lines count (preface_of run rank)) it → Stands handed (progress_first run rank) it
+lines_put handed run rank count it h stands =
     let all : take count (preface_of run rank) ≡ preface_of run rank =
     take_all count (preface_of run rank) (omega (arith, h, length-map (preface_lines run) (preface_split run rank 0))) in
-    subst (λ (calls : List Call). Stands [] (record { records = plain 0 calls; active = []; late = [] }) it) all stands
+    subst (λ (calls : List Call). Stands handed (record { records = plain 0 calls; active = []; late = [] }) it) all stands

@@ -1,6 +1,7 @@
 -- What callers see of a recording, by what it keeps of a rank.
 use Rattle.std.proofs.Common.{◌≡◌, ◌∙◌, refl, sym, ap, subst, arith, ℕ, zero, suc, ◌+◌, ◌-◌, ◌<◌, ◌≤◌, Bool, true, false, List, [], ◌∷◌, ◌++◌, length, map, take, drop, append_assoc, length-append, get_or, ◌==◌, ne_eqb, inl, inr, ◌⊎◌, Option, Some, None, option_map}
 use Rattle.std.specs.Prelude.{slice_get, unwrap_or, zip, if◌then◌else◌}
+use Rattle.std.specs.Option.{option_map_or}
 use Rattle.std.proofs.lemmas.Option.{slice_get-map, slice_get_past, slice_get_read, slice_get_within}
 use Rattle.std.proofs.lemmas.Bool.{cases_lt, eqb-true}
 use Rattle.std.proofs.lemmas.List.{append-nil, length-map}
@@ -9,9 +10,12 @@ use Rattle.journals.specs.declared.journal.Journal.{Journal as JournalRead}
 use Rattle.journals.specs.Lines.{Line}
 use Rattle.closing.specs.Entries.{journal_at, lines_at, lines_in}
 use Rattle.closing.specs.Fit.{IsFit}
+use Rattle.closing.specs.Freed.{is_freed, starts_freed, starts_one_of}
 use Rattle.closing.specs.Journals.{journal_in, run_in}
 use Rattle.closing.specs.Recording.{Listed, calls_of, list_of}
 use Rattle.closing.specs.Recordings.{HasRanks, IsPartMade, RecordingView, calls_at, calls_waiting, choice_in, count_at, left_in, line_at, list_at}
+use Rattle.closing.specs.Steps.{Id, Written}
+use Rattle.closing.specs.inner.Lists.{HasPlaces, has_place}
 use Rattle.closing.specs.inner.Rankwise.{IsRecording, made_by, left_by, recording_view}
 use Rattle.closing.specs.inner.SoFar.{IsPart}
 use Rattle.closing.specs.declared.choice.Choice.{Choice as ChoiceMade}
@@ -247,6 +251,30 @@ module _ (ranks : ℕ) (journals : List (Option JournalRead)) (choice : ChoiceMa
   left_of_walk rank walk at fit none =
       let over : walk.is_over ≡ true = left_at_walk rank walk at ∙ ap (λ n. n == 0) none in
       ((rank_part ranks journals choice kept walks is fit rank walk at).over over).1
+
+  pub freed_of_walk : (rank place : ℕ) (walk : Walk) → slice_get walks rank ≡ Some walk → IsFit seen.run seen.choice → (rank < length seen.run → count_at seen.left rank ≡ 0)
+      → has_place walk.list.freed place ≡ starts_freed seen.run rank (list_at seen rank) place
+  freed_of_walk rank place walk at fit none =
+      let within : rank < length seen.run = omega (arith, slice_get_within walks rank walk at, is.walks_are, length-map journals (option_map journal_in)) in
+      let over : walk.is_over ≡ true = left_at_walk rank walk at ∙ ap (λ n. n == 0) (none within) in
+      let one = is.have.are fit rank walk at in
+      subst (λ (n : ℕ). HasPlaces (is_freed (lines_at seen.run n)) (list_of seen.run seen.choice n).records walk.list.freed) one.rank_is (one.is.freed over) place
+
+  -- without a list there is no line either
+  pub freed_of_none : (rank place : ℕ) → slice_get walks rank ≡ None → false ≡ starts_freed seen.run rank (list_at seen rank) place
+  freed_of_none rank place none =
+      let no_journal : slice_get seen.run rank ≡ None = slice_get_past seen.run rank (none_past rank none) in
+      let no_line : lines_at seen.run rank ≡ [] = rw no_journal refl in
+      sym (ap (λ (lines : List Line). starts_one_of (is_freed lines) (slice_get (list_at seen rank).records place)) no_line
+      ∙ none_of (slice_get (list_at seen rank).records place))
+    where
+      none_by : (id : Option Id) → option_map_or (is_freed []) id false ≡ false
+      none_by None = refl
+      none_by (Some id) = refl
+
+      none_of : (it : Option Written) → starts_one_of (is_freed []) it ≡ false
+      none_of None = refl
+      none_of (Some it) = none_by it.starts
 
   -- no list has more left than a number can say
   pub left_few : (rank : ℕ) → count_at seen.left rank < 4294967296

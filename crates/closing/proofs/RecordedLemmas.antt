@@ -6,7 +6,6 @@ use Rattle.std.specs.List.{AllZip}
 use Rattle.std.specs.Option.{option_copied}
 use Rattle.std.proofs.lemmas.List.{length-map, map-append, replicate-append-replicate}
 use Rattle.std.proofs.lemmas.Option.{slice_get-map, slice_get_within}
-use Rattle.mpicall.specs.declared.call.Call.{Call}
 use Rattle.journals.specs.Header.{Heading}
 use Rattle.journals.specs.JournalAnswers.{heading_in}
 use Rattle.journals.specs.Lines.{Line}
@@ -17,6 +16,7 @@ use Rattle.closing.specs.Entry.{Choice}
 use Rattle.closing.specs.Fit.{IsFit}
 use Rattle.closing.specs.FitComms.{HasFitComms}
 use Rattle.closing.specs.Groups.{groups_in}
+use Rattle.closing.specs.Freed.{is_freed}
 use Rattle.closing.specs.Journals.{journal_in, run_in}
 use Rattle.closing.specs.Keys.{Key, group_of_key}
 use Rattle.closing.specs.Numbers.{numbered_keys}
@@ -24,12 +24,13 @@ use Rattle.closing.specs.Recording.{list_of, recording_of}
 use Rattle.closing.specs.Recordings.{RecordingView, choice_in, count_at}
 use Rattle.closing.specs.Steps.{Progress}
 use Rattle.closing.specs.Table.{Table, group_at}
-use Rattle.closing.specs.inner.Lists.{Stands}
+use Rattle.closing.specs.inner.Lists.{Handed, HasPlaces, Stands}
 use Rattle.closing.specs.inner.Numbered.{IsNumberedRun}
 use Rattle.closing.specs.inner.Rankwise.{AreFew, HaveWalks, IsRecording, IsStep, IsWalkOf, TakesStep, left_by, made_by, recording_view}
 use Rattle.closing.specs.inner.SoFar.{IsOn, IsWalk, comms_at}
 use Rattle.closing.specs.inner.Table.{Grows, HasKey}
 use Rattle.closing.specs.declared.choice.Choice.{Choice as ChoiceMade}
+use Rattle.closing.specs.declared.freed.Freed.{Freed}
 use Rattle.closing.specs.declared.list.List.{List as ListCode}
 use Rattle.closing.specs.declared.numbers.Communicators.{Communicators}
 use Rattle.closing.specs.declared.walk.Walk.{Walk}
@@ -45,7 +46,7 @@ use Rattle.closing.proofs.RankwiseLemmas.{count_of_none, count_of_walk, forgotte
 
 -- what is known of a list stays so
 pub walk_grows : (run : Run) (choice : Choice) (old new : Table) (walk : Walk) → Grows old new → IsWalk run choice old walk → IsWalk run choice new walk
-walk_grows run choice old new walk grows is = record { part = is.part; on = λ goes. on_grows (is.on goes) }
+walk_grows run choice old new walk grows is = record { part = is.part; on = λ goes. on_grows (is.on goes); freed = is.freed }
   where
     on_grows : IsOn run choice old walk → IsOn run choice new walk
     on_grows on = record {
@@ -55,6 +56,7 @@ walk_grows run choice old new walk grows is = record { part = is.part; on = λ g
         handed = on.so_far.handed;
         progress = on.so_far.progress;
         count = on.so_far.count;
+        frees = on.so_far.frees;
         stands = on.so_far.stands;
         late = on.so_far.late;
         list = on.so_far.list;
@@ -88,11 +90,13 @@ walk_of_grows run choice kept later rank walk same grows is = record {
 
 pub forgotten_walk : (run : Run) (choice : Choice) (table : Table) (old : Walk) (list : ListCode) (handed : ℕ) → IsWalk run choice table old → list.records.items ≡ []
     → handed ≡ old.handed + length old.list.records.items
-    → ((before : List Call) (progress : Progress) → Stands before progress old.list → Stands (before ++ old.list.records.items) progress list)
-    → IsWalk run choice table (record old { list = list; handed = handed })
-forgotten_walk run choice table old list handed is none count stands = record {
+    → ((before : Handed) (progress : Progress) → Stands before progress old.list → Stands (record before { calls = before.calls ++ old.list.records.items }) progress list)
+    → list.freed ≡ old.list.freed → IsWalk run choice table (record old { list = list; handed = handed })
+forgotten_walk run choice table old list handed is none count stands freed = record {
   part = forgotten (list_of run choice old.rank) old (record old { list = list; handed = handed }) is.part none count refl refl refl refl;
   on = λ goes. still_on (is.on goes);
+  freed = λ over.
+      subst (λ (it : Freed). HasPlaces (is_freed (lines_at run old.rank)) (list_of run choice old.rank).records it) (sym freed) (is.freed over);
 }
   where
     still_on : IsOn run choice table old → IsOn run choice table (record old { list = list; handed = handed })
@@ -100,9 +104,10 @@ forgotten_walk run choice table old list handed is none count stands = record {
       journal = on.journal;
       there = on.there;
       so_far = record {
-        handed = on.so_far.handed ++ old.list.records.items;
+        handed = record on.so_far.handed { calls = on.so_far.handed.calls ++ old.list.records.items };
         progress = on.so_far.progress;
-        count = length-append on.so_far.handed old.list.records.items ∙ ap (λ n. n + length old.list.records.items) on.so_far.count ∙ sym count;
+        frees = on.so_far.frees;
+        count = length-append on.so_far.handed.calls old.list.records.items ∙ ap (λ n. n + length old.list.records.items) on.so_far.count ∙ sym count;
         stands = stands on.so_far.handed on.so_far.progress on.so_far.stands;
         late = on.so_far.late;
         list = on.so_far.list;
@@ -120,15 +125,15 @@ forgotten_walk run choice table old list handed is none count stands = record {
 
 pub forgotten_of : (run : Run) (choice : ChoiceMade) (kept : Communicators) (rank : ℕ) (old new : Walk) → new ≡ record old { list = new.list; handed = new.handed }
     → IsWalkOf run choice kept rank old → new.list.records.items ≡ [] → new.handed ≡ old.handed + length old.list.records.items
-    → ((before : List Call) (progress : Progress) → Stands before progress old.list → Stands (before ++ old.list.records.items) progress new.list)
-    → IsWalkOf run choice kept rank new
-forgotten_of run choice kept rank old new same is none count stands =
+    → ((before : Handed) (progress : Progress) → Stands before progress old.list → Stands (record before { calls = before.calls ++ old.list.records.items }) progress new.list)
+    → new.list.freed ≡ old.list.freed → IsWalkOf run choice kept rank new
+forgotten_of run choice kept rank old new same is none count stands freed =
     subst (λ (it : Walk). IsWalkOf run choice kept rank it) (sym same)
     (record {
       rank_is = is.rank_is;
       choice_is = is.choice_is;
       numbered = is.numbered;
-      is = forgotten_walk run (choice_in choice) kept.keys old new.list new.handed is.is none count stands;
+      is = forgotten_walk run (choice_in choice) kept.keys old new.list new.handed is.is none count stands freed;
       before = omega (arith, is.before, count);
     })
 
@@ -445,13 +450,13 @@ pub first_numbered : (journals : List (Option JournalRead)) (choice : ChoiceMade
 first_numbered journals choice kept later rank walk has numbered fit =
     numbered_grows (run_in journals) kept later has.run (has.is fit (numbered fit)).1 (numbered fit)
 
--- nothing was handed on of one list more
-pub handed_more : (walks : List Walk) (walk : Walk) → map (λ (it : Walk). it.handed) walks ≡ replicate (length walks) 0 → walk.handed ≡ 0
-    → map (λ (it : Walk). it.handed) (walks ++ walk ∷ []) ≡ replicate (length (walks ++ walk ∷ [])) 0
-handed_more walks walk none handed =
-    map-append (λ (it : Walk). it.handed) walks (walk ∷ [])
-    ∙ ap (λ ns. ns ++ walk.handed ∷ []) none
-    ∙ ap (λ n. replicate (length walks) 0 ++ n ∷ []) handed
+-- none of one list more
+pub none_more : (count_of : Walk → ℕ) (walks : List Walk) (walk : Walk) → map count_of walks ≡ replicate (length walks) 0 → count_of walk ≡ 0
+    → map count_of (walks ++ walk ∷ []) ≡ replicate (length (walks ++ walk ∷ [])) 0
+none_more count_of walks walk none own =
+    map-append count_of walks (walk ∷ [])
+    ∙ ap (λ ns. ns ++ count_of walk ∷ []) none
+    ∙ ap (λ n. replicate (length walks) 0 ++ n ∷ []) own
     ∙ replicate-append-replicate (length walks) 1 0
     ∙ ap (λ n. replicate n 0) (sym (length-append walks (walk ∷ [])))
 

@@ -5,7 +5,7 @@ use Rattle.std.specs.HashMap.{get}
 use Rattle.std.proofs.lemmas.Option.{slice_get_within}
 use Rattle.closing.specs.Keys.{Key, World, Apart, OfGroup}
 use Rattle.closing.specs.RankComms.{RankComms, Wave, under, made_in, duplicated_in}
-use Rattle.closing.specs.inner.Holds.{IsCounted, HasComms}
+use Rattle.closing.specs.inner.Holds.{key_kept, IsCounted, HasComms}
 use Rattle.closing.specs.Table.{Table, group_or_none}
 use Rattle.closing.specs.inner.Table.{Grows, HasKey, HasGroup, IsPlaced, IsTable, IsPlaceOf, IsWaveOf, key_of, keys_in, key_or_world}
 use Rattle.closing.specs.declared.rank_comms.RankComms.{RankComms as CommsCode}
@@ -16,7 +16,7 @@ use Rattle.closing.proofs.HoldsLemmas.{counted_grows, place_grows, place_put, wa
 -- what is kept, with other numbers, wave and groups of what no call line says
 pub comms_with : (a d : Table) (it new : CommsCode) (comms : RankComms) (numbers : List (ℕ × Key)) (keys : List Key) (wave : Option Wave) (apart : List (List ℕ))
     → HasComms a it comms → Grows a d → new ≡ record it { numbers = new.numbers; wave = new.wave; apart = new.apart }
-    → ((q : ℕ) → IsPlaceOf d (get nat_eq new.numbers q) (under q numbers)) → IsWaveOf d new.wave wave → IsCounted (HasGroup d) new.apart apart
+    → ((q : ℕ) → IsPlaceOf d (key_kept new.numbers q) (under q numbers)) → IsWaveOf d new.wave wave → IsCounted (HasGroup d) new.apart apart
     → HasComms d new (record comms { numbers = numbers; keys = keys; wave = wave; apart = apart })
 comms_with a d it new comms numbers keys wave apart is grows rest numbers_are wave_is apart_is = record {
   table_is = grows.table;
@@ -31,11 +31,11 @@ comms_with a d it new comms numbers keys wave apart is grows rest numbers_are wa
 
 -- the numbers with one more
 pub numbers_with : (a d : Table) (it new : CommsCode) (comms : RankComms) (n place : ℕ) (key : Key) → HasComms a it comms → Grows a d
-    → ((q : ℕ) → get nat_eq new.numbers q ≡ cond (n == q) (Some place) (get nat_eq it.numbers q)) → HasKey d place key
-    → (q : ℕ) → IsPlaceOf d (get nat_eq new.numbers q) (under q ((n, key) ∷ comms.numbers))
+    → ((q : ℕ) → key_kept new.numbers q ≡ cond (n == q) (Some place) (key_kept it.numbers q)) → HasKey d place key
+    → (q : ℕ) → IsPlaceOf d (key_kept new.numbers q) (under q ((n, key) ∷ comms.numbers))
 numbers_with a d it new comms n place key is grows updates stands q =
     subst (λ (o : Option ℕ). IsPlaceOf d o (under q ((n, key) ∷ comms.numbers))) (sym (updates q))
-    (place_put d n q place key comms.numbers (get nat_eq it.numbers q) stands (place_grows a d (get nat_eq it.numbers q) (under q comms.numbers) grows (is.numbers q)))
+    (place_put d n q place key comms.numbers (key_kept it.numbers q) stands (place_grows a d (key_kept it.numbers q) (under q comms.numbers) grows (is.numbers q)))
 
 -- ---- The communicator of the last call ----
 

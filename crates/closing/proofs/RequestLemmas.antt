@@ -1,5 +1,5 @@
 -- The active requests of a list, as some of them are completed.
-use Rattle.std.proofs.Common.{◌≡◌, ◌∙◌, ◌<◌, ◌≤◌, ◌+◌, ◌&&◌, ◌||◌, ◌==◌, ℕ, zero, suc, Bool, true, false, not, cond, refl, sym, ap, subst, arith, List, [], ◌∷◌, ◌++◌, length, map, take, drop, append_assoc, Option, Some, None, option_map, inl, inr, eqb}
+use Rattle.std.proofs.Common.{◌≡◌, ◌∙◌, ◌||◌, ◌==◌, ℕ, true, false, not, cond, refl, sym, ap, subst, List, [], ◌∷◌, ◌++◌, append_assoc, Option, Some, None, option_map, inl, inr, eqb}
 use Rattle.std.specs.Prelude.{nat_eq}
 use Rattle.std.specs.List.{list_any}
 use Rattle.std.specs.HashMap.{get}
@@ -7,7 +7,7 @@ use Rattle.std.proofs.lemmas.Bool.{cases_eq, cases_Bool, cond-true, cond-false, 
 use Rattle.std.proofs.lemmas.List.{append-nil}
 use Rattle.closing.specs.Steps.{Id, Own, Whole, ReceiveHalf, Written, same_id, number_in, without, without_all, put_number, numbers_of, has_number}
 use Rattle.closing.specs.inner.Free.{Requests}
-use Rattle.closing.specs.inner.Lists.{IsApart, AreApart, AreHeld, AreSmall, IsStarted, KeepsLines, Owns, TakesOne, found_number}
+use Rattle.closing.specs.inner.Lists.{IsApart, AreApart, AreHeld, IsStarted, KeepsLines, Owns, TakesOne, found_number}
 use Rattle.closing.specs.declared.list.List.{List as ListCode}
 use Rattle.closing.specs.declared.list.Active.{Active}
 use Rattle.closing.proofs.FreedLemmas.{has_without}
@@ -194,13 +194,14 @@ gone_started id old new gone records q started = elim (cases_eq id q) [
   | inr differs ↦ subst (IsStarted records q) (sym (gone q ∙ cond-false (eqb id q) None (get nat_eq old.active q) (ne_eqb id q differs))) started
 ]
 
-pub took_line : (id : ℕ) (old new : ListCode) → new.records ≡ old.records → new.count ≡ old.count → new.free ≡ old.free → new.given ≡ old.given
+pub took_line : (id : ℕ) (old new : ListCode) → new.records ≡ old.records → new.count ≡ old.count → new.free ≡ old.free → new.given ≡ old.given → new.freed ≡ old.freed
     → ((q : ℕ) → get nat_eq new.active q ≡ cond (nat_eq id q) None (get nat_eq old.active q)) → KeepsLines old new
-took_line id old new records count free given gone = record {
+took_line id old new records count free given freed gone = record {
   records = records;
   count = count;
   free = free;
   given = given;
+  freed = freed;
   started = gone_started id old new gone;
 }
 

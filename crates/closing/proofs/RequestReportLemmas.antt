@@ -1,8 +1,8 @@
 -- What is kept of the requests of a journal says what its lines report, where each is reported once at most.
-use Rattle.std.proofs.Common.{◌≡◌, ◌⊎◌, ◌∙◌, ◌<◌, ◌≤◌, ◌+◌, ◌||◌, ◌==◌, ℕ, zero, suc, Bool, true, false, not, cond, refl, sym, ap, arith, add-one, List, [], ◌∷◌, length, drop, map, Option, Some, None, option_map, is_some, inl, inr, eqb}
+use Rattle.std.proofs.Common.{◌≡◌, ◌⊎◌, ◌∙◌, ◌<◌, ◌≤◌, ◌+◌, ◌||◌, ℕ, zero, suc, Bool, true, false, not, cond, refl, sym, ap, arith, add-one, List, [], ◌∷◌, length, drop, map, Option, Some, None, option_map, is_some, inl, inr, eqb}
 use Rattle.std.specs.Prelude.{slice_get}
 use Rattle.std.specs.List.{filter}
-use Rattle.std.proofs.lemmas.Bool.{cases_eq, cases_Bool, cond-true, cond-false, eq-eqb, ne_eqb, or_left, or_right, or_from, or_parts}
+use Rattle.std.proofs.lemmas.Bool.{cases_eq, cases_Bool, cond-true, cond-false, eq-eqb, ne_eqb, or_left, or_right, or_from}
 use Rattle.std.proofs.lemmas.List.{drop_all}
 use Rattle.std.proofs.lemmas.List.Sums.{sum_by-cons}
 use Rattle.mpicall.specs.Word.{or_else}
@@ -20,7 +20,7 @@ use Rattle.closing.specs.Reported as say
 use Rattle.closing.specs.inner.Outcomes.{outcome_in, outcome_by, outcome_with, outcome_at_line, outcome_after, outcome_at, message_after, message_by}
 use Rattle.closing.specs.inner.Outcomes as code
 use Rattle.closing.specs.Called.{naturals_in}
-use Rattle.closing.specs.Steps.{Id, Own}
+use Rattle.closing.specs.Steps.{Own}
 use Rattle.closing.specs.Entry.{id_of, ids_of}
 use Rattle.closing.specs.inner.Standings.{id_in, ids_in}
 use Rattle.closing.specs.Fit.{reports_of, report_count, IsFormed, AreFormed}

@@ -1,11 +1,10 @@
 -- The list of a rank as several steps are taken.
-use Rattle.std.proofs.Common.{◌≡◌, refl, sym, ◌∙◌, ap, subst, ℕ, zero, suc, ◌<◌, ◌+◌, ◌-◌, Option, Some, Result, Ok, Err, List, [], ◌∷◌, ◌++◌, length, take, arith, length-append}
+use Rattle.std.proofs.Common.{◌≡◌, refl, sym, ◌∙◌, ap, subst, ℕ, zero, suc, ◌<◌, ◌-◌, Option, Result, Ok, Err, List, [], ◌∷◌, ◌++◌, length, take, arith, length-append}
 use Rattle.std.specs.Prelude.{option_map, slice_get}
 use Rattle.std.proofs.lemmas.List.{map-append, take-append-le, length-map}
-use Rattle.mpicall.specs.declared.call.Call.{Call}
 use Rattle.closing.specs.Steps.{Written, Progress, Step, after_step, after_steps}
 use Rattle.closing.specs.Recording.{GoesOn}
-use Rattle.closing.specs.inner.Lists.{IsCut, ComesTo, calls_in}
+use Rattle.closing.specs.inner.Lists.{Handed, HasPlaces, IsCut, ComesTo, calls_in}
 use Rattle.closing.specs.inner.Walks.{Spot}
 use Rattle.closing.specs.Fit.{AllFit}
 use Rattle.closing.specs.inner.Walked.{EndsAt, Takes}
@@ -24,7 +23,7 @@ get_before [] ys n h = absurd (omega arith)
 get_before (x ∷ xs) ys zero h = refl
 get_before (x ∷ xs) ys (suc n) h = get_before xs ys n (omega arith)
 
-pub cut_on : (handed : List Call) (p q : Progress) (line : ℕ) (it : ListCode) → Grown p q → IsCut handed p line it → IsCut handed q line it
+pub cut_on : (handed : Handed) (p q : Progress) (line : ℕ) (it : ListCode) → Grown p q → IsCut handed p line it → IsCut handed q line it
 cut_on handed p q line it grown cut = record {
   long = rw grown.1 (omega (arith, cut.long, length-append p.records grown.0));
   records =
@@ -36,6 +35,9 @@ cut_on handed p q line it grown cut = record {
       ap (λ xs. option_map (λ it. it.line) (slice_get xs (MOST_RECORDS - 1))) grown.1
       ∙ ap (option_map (λ it. it.line)) (get_before p.records grown.0 (MOST_RECORDS - 1) (omega (arith, cut.long)))
       ∙ cut.ends_at;
+  places =
+      subst (λ (xs : List Written). HasPlaces handed.frees xs it.freed)
+      (sym (ap (take (MOST_RECORDS - 1)) grown.1 ∙ take-append-le (MOST_RECORDS - 1) p.records grown.0 (omega (arith, cut.long)))) cut.places;
 }
 
 -- ---- Some steps, and then others ----
@@ -58,7 +60,7 @@ followed done spot xs ys result old mid new one two = λ handed p stands fits.
     subst (λ q. ComesTo result handed q spot.line new) (sym (after_both p spot.line xs ys))
     (two handed (after_steps p spot.line xs) (one handed p stands (fit_first p spot.line xs ys fits)) (fit_then p spot.line xs ys fits))
 
-pub still_cut : (A B : Type 0) (stop : Stop) (handed : List Call) (p q : Progress) (line : ℕ) (it : ListCode) → Grown p q
+pub still_cut : (A B : Type 0) (stop : Stop) (handed : Handed) (p q : Progress) (line : ℕ) (it : ListCode) → Grown p q
     → ComesTo {A = A} (Err stop) handed p line it → ComesTo {A = B} (Err stop) handed q line it
 still_cut A B (Left TooLong) handed p q line it grown cut = cut_on handed p q line it grown cut
 still_cut A B Memory handed p q line it grown cut = tt
@@ -80,7 +82,7 @@ cut_before A B spot xs ys stop old new one = λ handed p stands fits.
     (grown_all (after_steps p spot.line xs) spot.line ys) (one handed p stands (fit_first p spot.line xs ys fits)))
 
 -- a list that is too long before its end is so at its end
-pub ends_cut : (A B : Type 0) (stop : Stop) (handed : List Call) (p : Progress) (line : ℕ) (why : Option Why) (it : ListCode)
+pub ends_cut : (A B : Type 0) (stop : Stop) (handed : Handed) (p : Progress) (line : ℕ) (why : Option Why) (it : ListCode)
     → ComesTo {A = A} (Err stop) handed p line it → EndsAt {A = B} (Err stop) handed p line why it
 ends_cut A B (Left TooLong) handed p line why it cut = cut
 ends_cut A B Memory handed p line why it cut = tt

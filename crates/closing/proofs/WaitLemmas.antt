@@ -1,19 +1,19 @@
 -- The waits for several requests, as the list of a rank gets them.
-use Rattle.std.proofs.Common.{◌≡◌, ◌∙◌, ◌<◌, ◌≤◌, ◌+◌, ◌-◌, ◌*◌, ◌&&◌, ℕ, zero, suc, Bool, true, false, not, cond, refl, sym, ap, subst, arith, List, [], ◌∷◌, ◌++◌, length, map, take, drop, get_or, append_assoc, length-append, length-drop, Option, Some, None, option_map, Result, Ok, Err, inl, inr, eqb, leb, ltb}
+use Rattle.std.proofs.Common.{◌≡◌, ◌∙◌, ◌<◌, ◌≤◌, ◌+◌, ◌-◌, ◌*◌, ℕ, zero, suc, true, not, refl, sym, ap, subst, arith, List, [], ◌∷◌, ◌++◌, length, map, take, drop, get_or, append_assoc, length-append, length-drop, option_map, Result, Err, eqb, leb, ltb}
 use Rattle.std.specs.Prelude.{nat_eq, IsTrue}
 use Rattle.std.specs.List.{list_all}
 use Rattle.std.specs.HashMap.{get}
 use Rattle.std.specs.BinaryHeap.{heap_items}
-use Rattle.std.proofs.lemmas.Bool.{eqb-true, ltb-true, le-leb, and_from, and_parts}
-use Rattle.std.proofs.lemmas.List.{append-nil, map-append, drop-drop, nil_from_length, take-append-le, take_all, take_more, drop_more, length-map}
+use Rattle.std.proofs.lemmas.Bool.{ltb-true, le-leb, and_from, and_parts}
+use Rattle.std.proofs.lemmas.List.{append-nil, drop-drop, take-append-le, take_all, take_more, drop_more}
 use Rattle.mpicall.specs.declared.call.Call.{Call}
 use Rattle.mpicall.specs.declared.call.Call.TheVariants.{Wait, Waitall}
 use Rattle.mpicall.specs.declared.limits.TheConstants.{GREATEST_REQUEST, MOST_REQUESTS}
 use Rattle.mpicall.specs.Argument.{request_argument, is_in_range}
 use Rattle.mpicall.specs.Limits.{in_ranges, few_enough}
-use Rattle.closing.specs.Steps.{Id, Own, Written, Progress, plain, wait_for, waits_for, wait_all, number_in, has_number, without, without_all, numbers_of}
+use Rattle.closing.specs.Steps.{Id, Own, wait_for, waits_for, number_in, has_number, without, without_all, numbers_of}
 use Rattle.closing.specs.inner.Free.{Requests, AreNumbered, kept_count, is_in_use}
-use Rattle.closing.specs.inner.Lists.{ComesTo, IsStarted, AreApart, Stands, IsCut, Puts, Cuts, Adds, FreesOnly, Owns, KeepsLines, TakesOne, TakesNumbers, AreSmall, AreHeld, calls_in, found_number}
+use Rattle.closing.specs.inner.Lists.{Puts, Cuts, Adds, FreesOnly, Owns, KeepsLines, TakesOne, TakesNumbers, AreSmall, AreHeld, found_number}
 use Rattle.closing.specs.declared.list.List.{List as ListCode}
 use Rattle.closing.specs.declared.list.Active.{Active}
 use Rattle.closing.specs.declared.list.TheConstants.{MOST_RECORDS}
@@ -21,8 +21,8 @@ use Rattle.closing.specs.declared.stop.Stop.{Stop}
 use Rattle.closing.specs.declared.stop.Stop.TheVariants.{Left, Memory}
 use Rattle.closing.specs.declared.why.Why.TheVariants.{NeverCameBack, NeverReported, Failed, NoNumber, TooLong, CannotBe, Stopped, Aborted, Full, NoJournal}
 use Rattle.closing.proofs.FreedLemmas.{has_without}
-use Rattle.closing.proofs.ListLemmas.{AllOfLine, plain_calls, plain_line, started_more, take_past, line_past, same_numbered, stop_comes}
-use Rattle.closing.proofs.RequestLemmas.{all_apart, found_first, held_numbers, without_append}
+use Rattle.closing.proofs.ListLemmas.{take_past}
+use Rattle.closing.proofs.RequestLemmas.{found_first, without_append}
 
 -- ---- One wait ----
 
@@ -88,6 +88,7 @@ puts_none it = record {
   free = refl;
   given = refl;
   numbers = refl;
+  freed = refl;
 }
 
 puts_more : (old mid new : ListCode) (xs ys : List Call) → Puts old mid xs → Puts mid new ys → Puts old new (xs ++ ys)
@@ -98,6 +99,7 @@ puts_more old mid new xs ys first more = record {
   free = more.free ∙ first.free;
   given = more.given ∙ first.given;
   numbers = more.numbers ∙ first.numbers;
+  freed = more.freed ∙ first.freed;
 }
 
 cuts_more : (old mid new : ListCode) (xs ys zs : List Call) → Puts old mid xs → mid.count < MOST_RECORDS → Cuts mid new ys → Cuts old new ((xs ++ ys) ++ zs)
@@ -115,6 +117,7 @@ cuts_more old mid new xs ys zs first room cuts =
           ∙ ap (λ it. old.records.items ++ (xs ++ it)) (sym (take-append-le (MOST_RECORDS - 1 - old.count - length xs) ys zs within))
           ∙ ap (λ it. old.records.items ++ it) (sym (take_past (MOST_RECORDS - 1 - old.count) xs (ys ++ zs) (omega (arith, first.count, room))))
           ∙ ap (λ it. old.records.items ++ take (MOST_RECORDS - 1 - old.count) it) (sym (append_assoc xs ys zs));
+      freed = cuts.freed ∙ first.freed;
     }
 
 stop_adds : (A B : Type 0) (stop : Stop) (mid old new : ListCode) (ys zs : List Call) → (Cuts mid new ys → Cuts old new zs) → Adds {A = A} (Err stop) mid new ys → Adds {A = B} (Err stop) old new zs
@@ -248,6 +251,7 @@ keeps_lines old mid new first more = record {
   count = more.count ∙ first.count;
   free = more.free ∙ first.free;
   given = more.given ∙ first.given;
+  freed = more.freed ∙ first.freed;
   started = λ records id started. more.started records id (first.started records id started);
 }
 
@@ -258,6 +262,7 @@ frees_both old mid new first more = record {
   active = more.active ∙ first.active;
   given = more.given ∙ first.given;
   numbers = more.numbers ∙ first.numbers;
+  freed = more.freed ∙ first.freed;
 }
 
 pub record FreesSoFar (active : Requests) (numbers : List ℕ) (place : ℕ) (it : ListCode) : Type 0 where

@@ -5,7 +5,6 @@ use Rattle.std.specs.List.{filter}
 use Rattle.std.specs.HashMap.{get}
 use Rattle.std.proofs.lemmas.Bool.{cases_Bool, cond-true, cond-false}
 use Rattle.std.proofs.lemmas.List.{append-nil, map-append, drop_all, drop_more}
-use Rattle.mpicall.specs.declared.call.Call.{Call}
 use Rattle.mpicall.specs.declared.call.Call.TheVariants.{Open}
 use Rattle.mpicall.specs.declared.limits.TheConstants.{MOST_REQUESTS}
 use Rattle.journals.specs.Lines.{Line}
@@ -16,7 +15,7 @@ use Rattle.closing.specs.Reported.{is_gone}
 use Rattle.closing.specs.Steps.{Id, Own, Written, Progress, Step, Does, Starts, WaitsForAll, WaitsForOne, PutsOff, WaitsForLate, number_in, numbers_of, wait_one, after_step, after_steps}
 use Rattle.closing.specs.Recording.{Outcome, GoesOn, Ends}
 use Rattle.closing.specs.Entry.{Choice, id_of, ids_of, is_of_send, pass_test, passes_tests, test, unless_past, wait_for_all, wait_for_one}
-use Rattle.closing.specs.inner.Lists.{ComesTo, IsStartOf, IsStarted, Stands, is_active_send, is_send_in}
+use Rattle.closing.specs.inner.Lists.{Handed, ComesTo, IsStartOf, IsStarted, Stands, is_active_send, is_send_in}
 use Rattle.closing.specs.inner.Outcomes as kept
 use Rattle.closing.specs.inner.Outcomes.{outcome_at}
 use Rattle.closing.specs.inner.RequestReports.{AllStandFor, StandsFor, Tells}
@@ -80,7 +79,7 @@ now_all spot false steps result old new e t = t
 
 abbrev pub WaitingForAll : {B : Type 0} → List ℕ → Result B Stop → ListCode → ListCode → Type 0
 WaitingForAll ids result old new =
-    (handed : List Call) (progress : Progress) (line : ℕ) → Stands handed progress old
+    (handed : Handed) (progress : Progress) (line : ℕ) → Stands handed progress old
     → ComesTo result handed (after_step progress line (WaitsForAll (map Own ids))) line new
 
 pub waits_put : {B : Type 0} (spot : Spot) (ids : List ℕ) (said : List Id) (result : Result B Stop) (old new : ListCode)
@@ -91,7 +90,7 @@ waits_put {B} spot ids said result old new e waits =
 
 abbrev pub WaitingForOne : {B : Type 0} → ℕ → List ℕ → Result B Stop → ListCode → ListCode → Type 0
 WaitingForOne wanted ids result old new =
-    (handed : List Call) (progress : Progress) (line : ℕ) → Stands handed progress old
+    (handed : Handed) (progress : Progress) (line : ℕ) → Stands handed progress old
     → ComesTo result handed (after_step progress line (WaitsForOne (Own wanted) (map Own ids))) line new
 
 -- the first of those that were chosen
@@ -224,7 +223,7 @@ parts_all p xs place now all past so_far =
 -- ---- Tests that are passed ----
 
 -- an id is that of a send exactly if its request is
-kind_same : (lines : List Line) (handed : List Call) (p : Progress) (list : ListCode) (it : Standing) (request : ℕ)
+kind_same : (lines : List Line) (handed : Handed) (p : Progress) (list : ListCode) (it : Standing) (request : ℕ)
     → Stands handed p list → StandsFor lines it request → HasKind lines p request → is_send_in list (id_in it request) ≡ is_of_send lines request
 kind_same lines handed p list it request stands same kind =
     by_active (get nat_eq list.active (id_in it request))
@@ -274,7 +273,7 @@ module _ (f : ℕ → Bool) (id : ℕ) (ids : List ℕ) where
   own_first holds = ap (map Own) (cond-true (f id) (id ∷ filter f ids) (filter f ids) holds)
 
 -- the ids of some of the requests, by their kind
-module _ (keep : Bool → Bool) (lines : List Line) (handed : List Call) (p : Progress) (list : ListCode) (it : Standing)
+module _ (keep : Bool → Bool) (lines : List Line) (handed : Handed) (p : Progress) (list : ListCode) (it : Standing)
     (stands : Stands handed p list) (tells : Tells lines it.outcomes) where
   abbrev kept_ids : List Field → List Id
   kept_ids fields = map Own (filter (λ id. keep (is_send_in list id)) (ids_in it fields))
@@ -320,7 +319,7 @@ module _ (keep : Bool → Bool) (lines : List Line) (handed : List Call) (p : Pr
   all_kept (Undefined ∷ fields) same kinds = all_kept fields same kinds
 
 -- what is put off changes neither the records nor the active requests
-stands_late : (handed : List Call) (p : Progress) (late : List Id) (it : ListCode) → Stands handed p it → Stands handed (record p { late = late }) it
+stands_late : (handed : Handed) (p : Progress) (late : List Id) (it : ListCode) → Stands handed p it → Stands handed (record p { late = late }) it
 stands_late handed p late it stands = record {
   records = stands.records;
   count = stands.count;
@@ -330,12 +329,14 @@ stands_late handed p late it stands = record {
   apart = stands.apart;
   own = stands.own;
   started = stands.started;
+  ids = stands.ids;
+  places = stands.places;
 }
 
-comes_late : {B : Type 0} (result : Result B Stop) (handed : List Call) (p : Progress) (late : List Id) (line : ℕ) (it : ListCode)
+comes_late : {B : Type 0} (result : Result B Stop) (handed : Handed) (p : Progress) (late : List Id) (line : ℕ) (it : ListCode)
     → ComesTo result handed p line it → ComesTo result handed (record p { late = late }) line it
 comes_late (Ok done) handed p late line it comes = stands_late handed p late it comes
-comes_late (Err (Left TooLong)) handed p late line it comes = record { long = comes.long; records = comes.records; ends_at = comes.ends_at }
+comes_late (Err (Left TooLong)) handed p late line it comes = record { long = comes.long; records = comes.records; ends_at = comes.ends_at; places = comes.places }
 comes_late (Err Memory) handed p late line it comes = tt
 comes_late (Err (Left NeverCameBack)) handed p late line it comes = comes
 comes_late (Err (Left NeverReported)) handed p late line it comes = comes

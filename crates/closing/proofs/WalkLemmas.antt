@@ -1,5 +1,5 @@
 -- The list of a rank as its entries are taken, against what callers see of it.
-use Rattle.std.proofs.Common.{◌≡◌, ◌∙◌, refl, sym, ap, subst, arith, ℕ, ◌+◌, ◌<◌, ◌≤◌, Bool, true, false, List, [], ◌∷◌, ◌++◌, length, map, take, drop, Option, Some, None, option_map, Result, Ok, Err}
+use Rattle.std.proofs.Common.{◌≡◌, ◌∙◌, refl, sym, ap, subst, arith, ℕ, ◌+◌, ◌<◌, ◌≤◌, Bool, true, false, List, [], ◌∷◌, ◌++◌, length, map, take, drop, Option, Some, None, option_map, Ok, Err}
 use Rattle.std.specs.Prelude.{is_none}
 use Rattle.mpicall.specs.declared.call.Call.{Call}
 use Rattle.mpicall.specs.declared.call.Call.TheVariants.{Finalize, Open}
@@ -10,12 +10,13 @@ use Rattle.journals.specs.declared.word.CallWord.{CallWord}
 use Rattle.closing.specs.Entries.{Run, Placed, journal_at}
 use Rattle.closing.specs.Entry.{Choice, matched_message}
 use Rattle.closing.specs.Fit.{EntriesFit, TestsFit}
-use Rattle.closing.specs.Steps.{Own, Written, Progress, Step, after_steps}
+use Rattle.closing.specs.Steps.{Own, Step, after_steps}
 use Rattle.closing.specs.Recording.{Listed, GoesOn, cut, ended, list_from, list_of, most_records, outcome_of, whole_list, without_journal}
 use Rattle.closing.specs.Recordings.{left_in}
 use Rattle.closing.specs.inner.Holds.{HasComms}
+use Rattle.closing.specs.inner.Lists.{Handed}
 use Rattle.closing.specs.inner.Noted.{reports_in}
-use Rattle.closing.specs.inner.SoFar.{AreOfLine, Entered, HasCalls, IsOn, IsPart, IsSoFar, comms_at, entries_left, placed_here}
+use Rattle.closing.specs.inner.SoFar.{Entered, HasCalls, IsOn, IsPart, IsSoFar, comms_at, entries_left, placed_here}
 use Rattle.closing.specs.inner.Standings.{message_for}
 use Rattle.closing.specs.Table.{Table}
 use Rattle.closing.specs.declared.list.List.{List as ListCode}
@@ -44,11 +45,11 @@ part_of_on run choice table walk on goes =
     let begun = list_begins run choice so_far.progress (entries_left walk.rank on.journal walk.next) in
     let records : whole.records ≡ so_far.progress.records ++ begun.0 = ap (λ it. it.records) (sym so_far.list) ∙ begun.1 in
     let few : length so_far.progress.records < most_records = omega (arith, so_far.stands.count, so_far.stands.short) in
-    let has = calls_so_far whole so_far.handed walk.list.records.items so_far.progress.records begun.0 walk.before walk.line records few so_far.stands.records on.lines in
+    let has = calls_so_far whole so_far.handed.calls walk.list.records.items so_far.progress.records begun.0 walk.before walk.line records few so_far.stands.records on.lines in
     record {
-      handed = so_far.handed;
+      handed = so_far.handed.calls;
       rest = has.0;
-      has = subst (λ (it : Listed). HasCalls it so_far.handed walk.list.records.items has.0 walk.before walk.line) (sym (list_is_cut run choice walk.rank on.journal on.there)) has.1;
+      has = subst (λ (it : Listed). HasCalls it so_far.handed.calls walk.list.records.items has.0 walk.before walk.line) (sym (list_is_cut run choice walk.rank on.journal on.there)) has.1;
       count = so_far.count;
       over = λ is. absurd (true_false walk.is_over is goes);
     }
@@ -58,18 +59,18 @@ part_of_on run choice table walk on goes =
     true_false false is goes = cc (is)
 
 -- so is one that has ended
-pub part_of_ended : (run : Run) (choice : Choice) (rank : ℕ) (journal : Journal) (handed items : List Call) (why : Option Why) (walk : Walk) → journal_at run rank ≡ Some journal
-    → IsEnded (cut (whole_list run choice rank)) handed items walk.before walk.line why → walk.list.records.items ≡ items → length handed ≡ walk.handed
+pub part_of_ended : (run : Run) (choice : Choice) (rank : ℕ) (journal : Journal) (handed : Handed) (list : ListCode) (end : Call) (why : Option Why) (walk : Walk) → journal_at run rank ≡ Some journal
+    → IsEnded (cut (whole_list run choice rank)) handed list end walk.before walk.line why → walk.list.records.items ≡ list.records.items ++ end ∷ [] → length handed.calls ≡ walk.handed
     → walk.left ≡ left_as walk.line why → IsPart (list_of run choice rank) walk
-part_of_ended run choice rank journal handed items why walk there is same count left =
+part_of_ended run choice rank journal handed list end why walk there is same count left =
     let whole = cut (whole_list run choice rank) in
     let left_is : left_in whole ≡ left_as walk.line why =
     ap (λ line. left_as line whole.why) is.line_is ∙ ap (left_as walk.line) is.why_is in
     subst (λ (it : Listed). IsPart it walk) (sym (list_is_cut run choice rank journal there))
     (record {
-      handed = handed;
+      handed = handed.calls;
       rest = [];
-      has = subst (λ (xs : List Call). HasCalls whole handed xs [] walk.before walk.line) (sym same) is.has;
+      has = subst (λ (xs : List Call). HasCalls whole handed.calls xs [] walk.before walk.line) (sym same) is.has;
       count = count;
       over = λ over. (refl, left ∙ sym left_is);
     })
@@ -77,14 +78,14 @@ part_of_ended run choice rank journal handed items why walk there is same count 
 -- where no entry is left the list is left open
 pub ended_open : (run : Run) (choice : Choice) (journal : Journal) (table : Table) (walk : Walk) (before : ℕ) → (so_far : IsSoFar run choice journal table walk)
     → drop walk.next journal.lines ≡ [] → length so_far.progress.records ≤ before
-    → IsEnded (cut (whole_list run choice walk.rank)) so_far.handed (walk.list.records.items ++ Open ∷ []) before 0 None
+    → IsEnded (cut (whole_list run choice walk.rank)) so_far.handed walk.list Open before 0 None
 ended_open run choice journal table walk before so_far none count =
     let progress = so_far.progress in
     let few : length progress.records < most_records = omega (arith, so_far.stands.count, so_far.stands.short) in
     let whole : ended progress Open 0 None ≡ whole_list run choice walk.rank =
     ap (λ entries. list_from run choice progress entries) (sym (entries_at_end walk.rank journal walk.next none)) ∙ so_far.list in
-    subst (λ (it : Listed). IsEnded (cut it) so_far.handed (walk.list.records.items ++ Open ∷ []) before 0 None) whole
-    (calls_ended progress so_far.handed walk.list.records.items Open before 0 None few so_far.stands.records
+    subst (λ (it : Listed). IsEnded (cut it) so_far.handed walk.list Open before 0 None) whole
+    (calls_ended progress so_far.handed walk.list Open before 0 None few so_far.stands.records so_far.stands.places
     (λ place from within. absurd (omega (arith, from, within, count))))
 
 -- ---- The next entry ----
@@ -134,6 +135,7 @@ module _ (run : Run) (choice : Choice) (journal : Journal) (table now : Table) (
       handed = so_far.handed;
       progress = after_steps so_far.progress placed.line steps;
       count = so_far.count ∙ sym is.handed;
+      frees = so_far.frees;
       stands = came.stands;
       late = is.late;
       list =
@@ -165,13 +167,13 @@ module _ (run : Run) (choice : Choice) (journal : Journal) (table now : Table) (
   -- the rank's last call
   pub entry_ends : (before : ℕ) (list : ListCode) → length so_far.progress.records ≤ before
       → Entered (Ok true) (outcome_of run choice placed) so_far.handed so_far.progress placed.line list
-      → IsEnded (cut (whole_list run choice old.rank)) so_far.handed (list.records.items ++ Finalize ∷ []) before placed.line None
+      → IsEnded (cut (whole_list run choice old.rank)) so_far.handed list Finalize before placed.line None
   entry_ends before list count entered =
       entered_end run choice placed (entries_left old.rank journal after) (whole_list run choice old.rank) so_far.handed before so_far.progress list list_left count entered
 
   -- one at which the list is left
   pub entry_leaves : (before : ℕ) (list : ListCode) (why : Why) → length so_far.progress.records ≤ before
       → Entered (Err (Left why)) (outcome_of run choice placed) so_far.handed so_far.progress placed.line list
-      → IsEnded (cut (whole_list run choice old.rank)) so_far.handed (list.records.items ++ Open ∷ []) before placed.line (Some why)
+      → IsEnded (cut (whole_list run choice old.rank)) so_far.handed list Open before placed.line (Some why)
   entry_leaves before list why count entered =
       entered_left run choice placed (entries_left old.rank journal after) (whole_list run choice old.rank) so_far.handed before so_far.progress list why list_left count entered

@@ -4,6 +4,7 @@ pub mod Entries
 pub mod Entry
 pub mod Fit
 pub mod FitComms
+pub mod Freed
 pub mod Groups
 pub mod RankComms
 pub mod Recordings

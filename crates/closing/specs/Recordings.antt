@@ -6,7 +6,6 @@ use Rattle.closing.specs.Entries.{Run}
 use Rattle.closing.specs.Entry.{Choice}
 use Rattle.closing.specs.Recording.{Listed, list_of, calls_of}
 use Rattle.closing.specs.declared.choice.Choice.{Choice as ChoiceMade}
-use Rattle.closing.specs.declared.why.Why.{Why}
 use Rattle.closing.specs.declared.walk.Left.{Left}
 
 abbrev pub choice_in : ChoiceMade → Choice

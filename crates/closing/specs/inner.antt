@@ -1,10 +1,10 @@
 -- What journals stand for. No public clause cites it yet.
-pub mod Freed
 pub mod Views
 pub mod Words
 pub mod Outcomes
 pub mod Standings
 pub mod Free
+pub mod FreedIds
 pub mod RequestReports
 pub mod Lists
 pub mod Walks

@@ -1,14 +1,15 @@
 //! What a call line says, by its word: each field by what it is.
 
-ghost use Rattle.std.specs.Prelude.{◌≡◌, length};
+ghost use Rattle.std.specs.Prelude.{◌≡◌, true, length};
 ghost use Rattle.closing.specs.Called.{awaits, awaited, bytes_in, called, comm_of, exchanges, naturals_in, one_number, rooted, sends, sent, splits, starts_awaiting, starts_exchange, starts_rooted, starts_send, starts_unrooted, two_numbers, unrooted, wave_comm};
 ghost use Rattle.closing.specs.Called as say;
 ghost use Rattle.closing.specs.Fit.{AreNumbers};
 ghost use Rattle.closing.specs.RankComms.{makes_comm};
+ghost use Rattle.mpicall.specs.declared.call.Mode.{Mode as ModeSaid};
 ghost use Rattle.closing.specs.Made.{may_give};
 ghost use Rattle.closing.specs.inner.Views.{awaited_view, called_view, sent_view};
 ghost use Rattle.closing.specs.inner.Walked.{AreRequests};
-ghost use Rattle.closing.specs.inner.Words.{by_collective, by_comm, by_message};
+ghost use Rattle.closing.specs.inner.Words.{by_collective, by_comm, by_message, counts, is_plain};
 
 use journals::field::Field;
 use journals::word::CallWord;
@@ -425,6 +426,120 @@ pub(crate) fn read_call(word: CallWord, fields: &[Field]) -> Called<'_>
     }
 }
 
+// ---- The communicator of a call that counts nowhere, without the rest ----
+
+/// Whether such a call neither counts among those on a communicator nor makes one.
+pub(crate) fn is_plain(word: CallWord) -> bool
+    ensures { result ≡ is_plain word }
+{
+    matches!(
+        word,
+        CallWord::Send
+            | CallWord::Ssend
+            | CallWord::Bsend
+            | CallWord::Rsend
+            | CallWord::Isend
+            | CallWord::Issend
+            | CallWord::Ibsend
+            | CallWord::Irsend
+            | CallWord::Recv
+            | CallWord::Irecv
+            | CallWord::Sendrecv
+            | CallWord::Isendrecv
+            | CallWord::Probe
+            | CallWord::Iprobe
+            | CallWord::Mprobe
+            | CallWord::Improbe
+            | CallWord::Wait
+            | CallWord::Test
+            | CallWord::Waitany
+            | CallWord::Waitsome
+    )
+}
+
+fn sent_on(fields: &[Field]) -> Option<u32>
+    ensures { (mode : ModeSaid) → result ≡ comm_of (sends mode fields.now) }
+{
+    match fields {
+        [Field::Natural(comm), _, _, ..] => Some(*comm),
+        _ => None,
+    }
+}
+
+fn started_send_on(fields: &[Field]) -> Option<u32>
+    ensures { (mode : ModeSaid) → result ≡ comm_of (starts_send mode fields.now) }
+{
+    match fields {
+        [Field::Natural(_), Field::Natural(comm), _, _, ..] => Some(*comm),
+        _ => None,
+    }
+}
+
+fn awaited_on(fields: &[Field]) -> Option<u32>
+    ensures received { result ≡ comm_of (awaits say.Receives fields.now) }
+    ensures probed { result ≡ comm_of (awaits say.Probes fields.now) }
+{
+    match fields {
+        [Field::Natural(comm), _, _] => Some(*comm),
+        _ => None,
+    }
+}
+
+fn started_awaiting_on(fields: &[Field]) -> Option<u32>
+    ensures received { result ≡ comm_of (starts_awaiting say.StartsReceive fields.now) }
+    ensures probed { result ≡ comm_of (starts_awaiting say.ProbesMatching fields.now) }
+{
+    match fields {
+        [Field::Natural(_), Field::Natural(comm), _, _] => Some(*comm),
+        _ => None,
+    }
+}
+
+fn exchanged_on(fields: &[Field]) -> Option<u32>
+    ensures { result ≡ comm_of (exchanges fields.now) }
+{
+    match fields {
+        [Field::Natural(comm), _, _, _, _, ..] => Some(*comm),
+        _ => None,
+    }
+}
+
+fn started_exchange_on(fields: &[Field]) -> Option<u32>
+    ensures { result ≡ comm_of (starts_exchange fields.now) }
+{
+    match fields {
+        [
+            Field::Natural(_),
+            Field::Natural(_),
+            Field::Natural(comm),
+            _,
+            _,
+            _,
+            _,
+            ..
+        ] => Some(*comm),
+        _ => None,
+    }
+}
+
+/// The rank's own number of the communicator that such a call is on.
+pub(crate) fn comm_in(word: CallWord, fields: &[Field]) -> Option<u32>
+    requires { is_plain word ≡ true }
+    ensures { result ≡ comm_of (called word fields.now) }
+{
+    match word {
+        CallWord::Send | CallWord::Ssend | CallWord::Bsend | CallWord::Rsend => sent_on(fields),
+        CallWord::Isend | CallWord::Issend | CallWord::Ibsend | CallWord::Irsend => {
+            started_send_on(fields)
+        }
+        CallWord::Recv | CallWord::Probe | CallWord::Iprobe => awaited_on(fields),
+        CallWord::Irecv | CallWord::Mprobe | CallWord::Improbe => started_awaiting_on(fields),
+        CallWord::Sendrecv => exchanged_on(fields),
+        CallWord::Isendrecv => started_exchange_on(fields),
+        _ => None,
+    }
+}
+
 impl Called<'_> {
     /// The rank's own number of the communicator of a call that all its members make, each one of a wave.
     pub(crate) fn wave_comm(&self) -> Option<u32>
@@ -456,6 +571,22 @@ impl Called<'_> {
             | Called::ProbesMatching(_, awaited) => Some(awaited.comm),
             _ => self.wave_comm(),
         }
+    }
+
+    /// Whether it counts among those on a communicator, or makes one of a group.
+    pub(crate) fn counts(&self) -> bool
+        ensures { result ≡ counts (called_view self.now) }
+    {
+        matches!(
+            self,
+            Called::Collects(..)
+                | Called::StartsCollective(..)
+                | Called::Duplicates(_)
+                | Called::StartsDuplicate(..)
+                | Called::Splits(..)
+                | Called::Makes(_)
+                | Called::MakesOfGroup(_)
+        )
     }
 
     /// Whether all members of a communicator make such a call, which may give some of them one.

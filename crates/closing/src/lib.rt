@@ -15,6 +15,7 @@
 //! | `numbers` | the numbers of the head, and the preface | `Numbers` |
 //! | `last` | the reports of an entry, and whether the last call came back | `Entries` |
 //! | `outcomes`, `message` | what is reported of requests; messages, and what can't be | `Reported`, `Endings` |
+//! | `freed` | the requests that a rank's program frees, and where its list starts them | `Freed` |
 //! | `list` | the records of a rank so far, and its active requests with their numbers | `Steps` |
 //! | `walk` | one rank: what stands for its entries, and where and why its list ends | `Entry`, `Endings`, `Recording` |
 //!
@@ -22,13 +23,14 @@
 //!
 //! Each is proved against these, and `recording` against `Recordings`. Of a run that is fit, as `Fit` has it, the
 //! records of a rank are the calls of its list in order, each by the line of its entry. The list ends where, and
-//! why, the definitions end it. What `Recording::freed` answers is tested alone.
+//! why, the definitions end it, and starts freed requests where `Freed` has it.
 //!
 //! Nobody has to believe `inner`.
 #![tactic(auto)]
 
 mod called;
 pub mod choice;
+mod freed;
 mod keys;
 mod last;
 mod list;
@@ -37,6 +39,7 @@ pub mod numbers;
 mod outcomes;
 mod places;
 mod rank_comms;
+mod rank_numbers;
 pub mod recording;
 mod standing;
 mod stop;

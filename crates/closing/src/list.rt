@@ -1,12 +1,13 @@
 //! The list of a rank: its records so far, and the numbers of its requests.
 
-ghost use Rattle.std.specs.Prelude.{◌≡◌, ◌<◌, ◌≤◌, ◌+◌, [], ◌∷◌, ◌++◌, ℕ, List as Items, nat_eq, map, take, drop, length, slice_index, true, IsTrue, OnOk};
+ghost use Rattle.std.specs.Prelude.{◌≡◌, ◌<◌, ◌≤◌, ◌+◌, [], ◌∷◌, ◌++◌, ℕ, List as Items, nat_eq, map, take, drop, length, slice_index, true, false, IsTrue, OnOk};
 ghost use Rattle.std.specs.HashMap.{get};
 ghost use Rattle.mpicall.specs.Limits.{in_ranges};
 ghost use Rattle.closing.specs.inner.Free.{AreNumbered, KeepsFree, Requests, TakesLeast};
-ghost use Rattle.closing.specs.inner.Lists.{Adds, AreApart, AreHeld, AreSmall, ComesTo, FindsOnly, FreesOnly, IsUnnamed, KeepsLines, KeepsRecords, Owns, Puts, Stands, TakesFree, TakesNumbers, TakesOne, found_call, found_number, is_send_in, is_start_of_send, start_call};
+ghost use Rattle.closing.specs.inner.Lists.{Adds, AreApart, AreHeld, AreSmall, ComesTo, FindsOnly, FreesOnly, Handed, HasIds, IsUnnamed, KeepsLines, KeepsRecords, Owns, Puts, Stands, TakesFree, TakesNumbers, TakesOne, found_call, found_number, has_place, is_send_in, is_start_of_send, start_call};
 ghost use Rattle.closing.specs.Steps.{Does, Id, Own, Progress, Starts, WaitsForAll, WaitsForOne, after_step, has_number, number_in, numbers_of, wait_for, wait_for_one, waits_for, without, without_all};
 
+use crate::freed::Freed;
 use crate::places::index_of;
 use crate::stop::Stop;
 use crate::why::Why;
@@ -102,6 +103,8 @@ pub(crate) struct List {
     given: u32,
     /// Numbers of the requests that one line names.
     numbers: Vec<u32>,
+    /// The requests that the rank's program frees, and where they are started.
+    freed: Freed,
 }
 
 /// So many of some numbers from a place on, or as many as there are.
@@ -159,8 +162,9 @@ fn wait_for_one(numbers: &[u32], number: u32) -> Call
 
 impl List {
     #[tactic(auto, using(crate::proofs::ListLemmas::new_stands))]
-    pub(crate) fn new(alloc: Global) -> List
-        ensures { (late : Items Id) → Stands [] (record { records = []; active = []; late = late }) result }
+    pub(crate) fn new(alloc: Global, freed: Freed) -> List
+        ensures { (late : Items Id) (handed : Handed) → handed.calls ≡ [] → HasIds handed.frees freed → ((place : ℕ) → has_place freed place ≡ false) →
+            Stands handed (record { records = []; active = []; late = late }) result }
     {
         List {
             records: Vec::new(alloc),
@@ -169,6 +173,7 @@ impl List {
             free: BinaryHeap::new(alloc),
             given: 0,
             numbers: Vec::new(alloc),
+            freed,
         }
     }
 
@@ -183,7 +188,8 @@ impl List {
     #[tactic(auto, using(crate::proofs::ListLemmas::handed_on))]
     pub(crate) fn forget_records(&mut self)
         ensures records { self.new.records.items ≡ [] }
-        ensures stands { (handed : Items Call) (progress : Progress) → Stands handed progress self.old → Stands (handed ++ self.old.records.items) progress self.new }
+        ensures freed { self.new.freed ≡ self.old.freed }
+        ensures stands { (handed : Handed) (progress : Progress) → Stands handed progress self.old → Stands (record handed { calls = handed.calls ++ self.old.records.items }) progress self.new }
     {
         self.records.clear();
     }
@@ -193,6 +199,13 @@ impl List {
         ensures { result ≡ get nat_eq self.now.active id }
     {
         self.active.get(&id).copied()
+    }
+
+    /// Whether the record at a place starts a request that the rank's program frees.
+    pub(crate) fn starts_freed(&self, place: u32) -> bool
+        ensures { result ≡ has_place self.now.freed place }
+    {
+        self.freed.is_started_at(place)
     }
 
     /// Whether it is that of a send.
@@ -208,8 +221,9 @@ impl List {
     /// Adds a line that has room in every list: its end, or a line of the preface.
     pub(crate) fn put(&mut self, call: Call) -> Result<(), AllocError>
         ensures records { OnOk result (IsTrue (in_ranges call) → self.new.records.items ≡ self.old.records.items ++ call ∷ []) }
+        ensures freed { self.new.freed ≡ self.old.freed }
         ensures puts { OnOk result (IsTrue (in_ranges call) → self.old.count < MOST_RECORDS → Puts self.old self.new (call ∷ [])) }
-        ensures stands { OnOk result ((handed : Items Call) (progress : Progress) (line : ℕ) → Stands handed progress self.old → IsTrue (in_ranges call) → self.old.count + 1 < MOST_RECORDS → Stands handed (after_step progress line (Does call)) self.new) }
+        ensures stands { OnOk result ((handed : Handed) (progress : Progress) (line : ℕ) → Stands handed progress self.old → IsTrue (in_ranges call) → self.old.count + 1 < MOST_RECORDS → Stands handed (after_step progress line (Does call)) self.new) }
     {
         let Some(record) = Record::new(call) else {
             return Ok(());
@@ -233,7 +247,7 @@ impl List {
 
     /// Puts a line that starts no request.
     pub(crate) fn does(&mut self, call: Call) -> Result<(), Stop>
-        ensures { (handed : Items Call) (progress : Progress) (line : ℕ) → Stands handed progress self.old → IsTrue (in_ranges call) → ComesTo result handed (after_step progress line (Does call)) line self.new }
+        ensures { (handed : Handed) (progress : Progress) (line : ℕ) → Stands handed progress self.old → IsTrue (in_ranges call) → ComesTo result handed (after_step progress line (Does call)) line self.new }
     {
         self.add(call)
     }
@@ -266,7 +280,7 @@ impl List {
 
     /// Puts a line that starts a request that no line names.
     pub(crate) fn starts_unnamed(&mut self, start: Start) -> Result<(), Stop>
-        ensures { (handed : Items Call) (progress : Progress) (line : ℕ) (id : Id) → Stands handed progress self.old → IsTrue (in_ranges (start_call start 0)) → IsUnnamed id → ComesTo result handed (after_step progress line (Starts id (start_call start))) line self.new }
+        ensures { (handed : Handed) (progress : Progress) (line : ℕ) (id : Id) → Stands handed progress self.old → IsTrue (in_ranges (start_call start 0)) → IsUnnamed id → ComesTo result handed (after_step progress line (Starts id (start_call start))) line self.new }
     {
         let number = self.take_number();
         self.add(start.call(number))
@@ -274,7 +288,7 @@ impl List {
 
     /// Puts a line that starts a request, by the rank's own number of it.
     pub(crate) fn starts(&mut self, id: u32, start: Start) -> Result<(), Stop>
-        ensures { (handed : Items Call) (progress : Progress) (line : ℕ) → Stands handed progress self.old → IsTrue (in_ranges (start_call start 0)) → number_in progress.active (Own id) ≡ None → ComesTo result handed (after_step progress line (Starts (Own id) (start_call start))) line self.new }
+        ensures { (handed : Handed) (progress : Progress) (line : ℕ) → Stands handed progress self.old → IsTrue (in_ranges (start_call start 0)) → number_in progress.active (Own id) ≡ None → ComesTo result handed (after_step progress line (Starts (Own id) (start_call start))) line self.new }
     {
         let number = self.take_number();
         let active = Active {
@@ -284,6 +298,7 @@ impl List {
         };
         self.add(start.call(number))?;
         self.active.insert(id, active)?;
+        self.freed.take_start(id, active.place)?;
         Ok(())
     }
 
@@ -360,7 +375,7 @@ impl List {
 
     /// Puts the waits for those of some requests that are active.
     pub(crate) fn waits_for(&mut self, ids: &[u32]) -> Result<(), Stop>
-        ensures { (handed : Items Call) (progress : Progress) (line : ℕ) → Stands handed progress self.old → ComesTo result handed (after_step progress line (WaitsForAll (map Own ids.now))) line self.new }
+        ensures { (handed : Handed) (progress : Progress) (line : ℕ) → Stands handed progress self.old → ComesTo result handed (after_step progress line (WaitsForAll (map Own ids.now))) line self.new }
     {
         self.take_numbers(ids)?;
         self.waits_for_taken()?;
@@ -412,7 +427,7 @@ impl List {
 
     /// Puts a wait for any of some requests, which completed this one that is active.
     fn waits_for_active(&mut self, wanted: u32, active: Active, ids: &[u32]) -> Result<(), Stop>
-        ensures { (handed : Items Call) (progress : Progress) (line : ℕ) → Stands handed progress self.old → get nat_eq self.old.active wanted ≡ Some active → ComesTo result handed (after_step progress line (WaitsForOne (Own wanted) (map Own ids.now))) line self.new }
+        ensures { (handed : Handed) (progress : Progress) (line : ℕ) → Stands handed progress self.old → get nat_eq self.old.active wanted ≡ Some active → ComesTo result handed (after_step progress line (WaitsForOne (Own wanted) (map Own ids.now))) line self.new }
     {
         self.find_numbers(ids)?;
         self.waits_for_number(active.number)?;
@@ -423,7 +438,7 @@ impl List {
 
     /// Puts a wait for any of some requests, which completed one of them, if that is active.
     pub(crate) fn waits_for_one(&mut self, wanted: u32, ids: &[u32]) -> Result<(), Stop>
-        ensures { (handed : Items Call) (progress : Progress) (line : ℕ) → Stands handed progress self.old → ComesTo result handed (after_step progress line (WaitsForOne (Own wanted) (map Own ids.now))) line self.new }
+        ensures { (handed : Handed) (progress : Progress) (line : ℕ) → Stands handed progress self.old → ComesTo result handed (after_step progress line (WaitsForOne (Own wanted) (map Own ids.now))) line self.new }
     {
         match self.active(wanted) {
             Some(active) => self.waits_for_active(wanted, active, ids),

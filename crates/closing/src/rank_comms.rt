@@ -1,9 +1,11 @@
 //! What a rank has after some lines of its journal: its communicators, by its own numbers, and the calls that
 //! count.
 
-ghost use Rattle.std.specs.Prelude.{◌≡◌, ◌+◌, ◌==◌, OnOk, IfOk, Option, None, ℕ, if◌then◌else◌, nat_eq};
+ghost use Rattle.std.specs.Prelude.{◌≡◌, ◌+◌, ◌==◌, OnOk, IfOk, Option, None, false, option_and_then, ℕ, if◌then◌else◌, nat_eq};
 ghost use Rattle.std.specs.HashMap.{get};
 ghost use Rattle.closing.specs.Called.{naturals_in};
+ghost use Rattle.closing.specs.Called as say_called;
+ghost use Rattle.closing.specs.inner.Words.{counts};
 ghost use Rattle.closing.specs.Keys.{Alone};
 ghost use Rattle.closing.specs.RankComms.{after_call, comms_first, key_next, key_under, makes_comm, under, wave_next, with_duplicate, with_duplicated, with_group, with_made};
 ghost use Rattle.closing.specs.RankComms as say;
@@ -14,6 +16,7 @@ ghost use Rattle.closing.specs.inner.Views.{called_view};
 
 use crate::called::Called;
 use crate::keys::{Key, Keys, WORLD, Wave};
+use crate::rank_numbers::RankNumbers;
 use journals::field::Field;
 use journals::word::ReportWord;
 use std::alloc::{AllocError, Global};
@@ -23,7 +26,7 @@ use std::collections::HashMap;
 #[derive(Drop)]
 pub(crate) struct RankComms {
     /// The rank's own numbers of communicators, and their keys.
-    numbers: HashMap<u32, u32>,
+    numbers: RankNumbers,
     /// How many calls of waves it made, by the key of their communicator.
     waves: HashMap<u32, u32>,
     /// The waves of its nonblocking duplicates, by request.
@@ -125,7 +128,7 @@ impl RankComms {
     pub(crate) fn first(alloc: Global, alone: u32) -> Result<RankComms, AllocError>
         ensures { IfOk result (λ it. (table : Table) (rank : ℕ) → IsTable table → HasKey table alone (Alone rank) → HasComms table it (comms_first rank)) }
     {
-        let mut numbers = HashMap::new(alloc);
+        let mut numbers = RankNumbers::new(alloc);
         numbers.insert(0, WORLD)?;
         numbers.insert(1, alone)?;
         Ok(RankComms {
@@ -143,7 +146,7 @@ impl RankComms {
     pub(crate) fn key_under(&self, comm: u32) -> Option<u32>
         ensures { (table : Table) (comms : say.RankComms) → HasComms table self.now comms → IsPlaceOf table result (key_under comms comm) }
     {
-        self.numbers.get(&comm).copied()
+        self.numbers.get(comm)
     }
 
     /// The wave of the last call, where that may make communicators, and none was reported so far.
@@ -160,6 +163,26 @@ impl RankComms {
         self.own
     }
 
+    /// The same, where there is a number.
+    pub(crate) fn key_if(&self, comm: Option<u32>) -> Option<u32>
+        ensures { (table : Table) (comms : say.RankComms) → HasComms table self.now comms → IsPlaceOf table result (option_and_then (key_under comms) comm) }
+    {
+        match comm {
+            Some(comm) => self.key_under(comm),
+            None => None,
+        }
+    }
+
+    /// Takes the next call, which neither counts nor makes a communicator of a group.
+    #[tactic(auto, using(crate::proofs::PlainLemmas::plain_comms))]
+    pub(crate) fn take_plain(&mut self)
+        ensures { (table : Table) (comms : say.RankComms) (it : say_called.Called) → counts it ≡ false → HasComms table self.old comms →
+            HasComms table self.new (after_call comms it) }
+    {
+        self.own = None;
+        self.wave = None;
+    }
+
     /// The key of the communicator that a call is on.
     pub(crate) fn key_on(&self, called: &Called<'_>) -> Option<u32>
         ensures { (table : Table) (comms : say.RankComms) → HasComms table self.now comms → IsPlaceOf table result (key_on comms (called_view called.now)) }
@@ -168,6 +191,7 @@ impl RankComms {
     }
 
     /// Takes the next call, which is on the communicator of this key, and answers its wave.
+    #[tactic(auto, using(crate::proofs::TableLemmas::grows_same, crate::proofs::PlainLemmas::plain_wave))]
     pub(crate) fn take_call(
         &mut self,
         keys: &mut Keys,
@@ -180,6 +204,10 @@ impl RankComms {
         ensures wave { IfOk result (λ wave. (comms : say.RankComms) → HasComms keys.old self.old comms →
             IsPlaceOf keys.old on (key_on comms (called_view called.now)) → IsWaveOf keys.new wave (wave_next comms (called_view called.now))) }
     {
+        if !called.counts() {
+            self.take_plain();
+            return Ok(None);
+        }
         let wave = next_wave(&mut self.waves, called, on)?;
         let own = next_of_group(&mut self.groups, keys, called)?;
         note_duplicate(&mut self.duplicates, called, wave)?;

@@ -5,6 +5,7 @@ ghost use Rattle.std.specs.Prelude.{◌≡◌, ◌<◌, ◌≤◌, ◌==◌, ◌
 ghost use Rattle.std.specs.Option.{option_copied};
 ghost use Rattle.closing.specs.Entries.{lines_in};
 ghost use Rattle.closing.specs.Fit.{IsFit};
+ghost use Rattle.closing.specs.Freed.{starts_freed};
 ghost use Rattle.closing.specs.Groups.{groups_in};
 ghost use Rattle.closing.specs.Journals.{journal_in, run_in};
 ghost use Rattle.closing.specs.Recording.{recording_of};
@@ -16,12 +17,10 @@ ghost use Rattle.closing.specs.Recordings.{ChangesOnly, HasRanks, IsPartMade, ca
 
 use crate::choice::Choice;
 use crate::numbers::Communicators;
-use crate::places::{checked_rank, count_of};
+use crate::places::checked_rank;
 use crate::walk::{Left, Walk};
-use journals::field::Field;
 use journals::journal::Journal;
 use journals::lines::Lines;
-use journals::word::{CallWord, Word};
 use mpicall::record::Record;
 use std::alloc::{AllocError, Global};
 use std::marker::Model;
@@ -84,6 +83,7 @@ fn walks_of(
 ) -> Result<Vec<Walk>, AllocError>
     ensures count { IfOk result (λ walks. length walks.items ≡ length journals.now) }
     ensures handed { IfOk result (λ walks. map (λ walk. walk.handed) walks.items ≡ replicate (length walks.items) 0) }
+    ensures before { IfOk result (λ walks. map (λ walk. walk.before) walks.items ≡ replicate (length walks.items) 0) }
     ensures walks { IfOk result (λ walks. AreFew journals.now → (IsFit (run_in journals.now) (choice_in choice) → IsNumberedRun (run_in journals.now) run.old) →
         HaveWalks journals.now choice run.new walks.items) }
 {
@@ -146,27 +146,6 @@ fn take_entry(
     Ok(())
 }
 
-/// The request that a line frees.
-fn freed_by(lines: &Lines, line: u32) -> Option<u32> {
-    match (lines.word(line), lines.fields(line)) {
-        (Some(Word::Call(CallWord::RequestFree)), [Field::Natural(request)]) => Some(*request),
-        _ => None,
-    }
-}
-
-/// The places of the records that start the requests which these lines free.
-fn freed_in(alloc: Global, lines: &Lines, walk: &Walk) -> Result<Vec<u32>, AllocError> {
-    let mut places = Vec::new(alloc);
-    for line in 0..count_of(lines) {
-        if let Some(request) = freed_by(lines, line) {
-            if let Some(place) = walk.start_of(request) {
-                places.push(place)?;
-            }
-        }
-    }
-    Ok(places)
-}
-
 impl Recording {
     /// That of these journals, one a rank; None of a rank without one.
     pub fn of(
@@ -177,6 +156,7 @@ impl Recording {
         ensures run { IfOk result (λ it. it.run ≡ run_in journals.items) }
         ensures choice { IfOk result (λ it. it.choice ≡ choice_in choice) }
         ensures handed { IfOk result (λ it. it.handed ≡ replicate (length it.run) 0) }
+        ensures before { IfOk result (λ it. it.before ≡ replicate (length it.run) 0) }
         ensures ranks { IfOk result HasRanks }
         ensures part { IfOk result (λ it. IsFit it.run it.choice → (rank : ℕ) → rank < length it.run → IsPartMade it rank) }
     {
@@ -293,12 +273,14 @@ impl Recording {
         self.walks.get(usize::from(rank))?.left()
     }
 
-    /// The places of the records of a rank that start requests which it freed, where no line completes them.
-    pub fn freed(&self, rank: u16) -> Result<Vec<u32>, AllocError> {
-        let at = usize::from(rank);
-        match (self.walks.get(at), self.journals.get(at)) {
-            (Some(walk), Some(Some(journal))) => freed_in(self.alloc, &journal.lines, walk),
-            _ => Ok(Vec::new(self.alloc)),
+    /// Whether the record at a place of a rank's list starts a request that the rank's program frees.
+    pub fn starts_freed(&self, rank: u16, place: u32) -> bool
+        ensures { IsFit self.now.run self.now.choice → (rank < length self.now.run → count_at self.now.left rank ≡ 0) →
+            result ≡ starts_freed self.now.run rank (list_at self.now rank) place }
+    {
+        match self.walks.get(usize::from(rank)) {
+            Some(walk) => walk.starts_freed(place),
+            None => false,
         }
     }
 }

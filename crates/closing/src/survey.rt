@@ -1,6 +1,6 @@
 //! Which communicators the ranks of a run have, and which of them calls name.
 
-ghost use Rattle.std.specs.Prelude.{◌≡◌, ◌<◌, ◌-◌, ◌++◌, ℕ, List, [], length, replicate, slice_get, IfOk, OnOk, Option, Some, None, option_map, false, ◌+◌, ◌≤◌, ◌∷◌};
+ghost use Rattle.std.specs.Prelude.{◌≡◌, ◌<◌, ◌-◌, ◌++◌, ℕ, List, [], length, replicate, slice_get, IfOk, OnOk, Option, Some, None, option_map, true, false, ◌+◌, ◌≤◌, ◌∷◌};
 ghost use Rattle.std.specs.List.{AllZip, filter_map};
 ghost use Rattle.std.specs.Option.{option_copied};
 ghost use Rattle.journals.specs.Lines.{Line};
@@ -14,13 +14,14 @@ ghost use Rattle.closing.specs.Made as made;
 ghost use Rattle.closing.specs.RankComms.{comms_after, comms_first, after_call, after_line, after_lines};
 ghost use Rattle.closing.specs.RankComms as say;
 ghost use Rattle.closing.specs.inner.Holds.{HasComms, report_taken};
+ghost use Rattle.closing.specs.inner.Words.{is_plain};
 ghost use Rattle.closing.specs.inner.Noted.{HavePlaces, IsLastCall};
 ghost use Rattle.closing.specs.inner.Surveyed.{HasGot, HasRank, IsSurveyed, IsSurveyedTo, Keeps, TakesRank, IsFound, Await, HaveNone, as_list, gives_at, journal_of_code, names_by, names_from, run_of_journals, inferred_with, waits_at, waits_for, with_name};
 ghost use Rattle.closing.specs.declared.keys.Wave.{Wave as WaveCode};
 ghost use Rattle.closing.specs.Table.{Table};
 ghost use Rattle.closing.specs.inner.Table.{HasKey, IsPlaceOf, IsTable, IsWaveOf, ranks_in};
 
-use crate::called::read_call;
+use crate::called::{comm_in, is_plain, read_call};
 use crate::keys::{Key, Keys, Wave};
 use crate::last::{LastCall, last_call_of};
 use crate::places::{checked_place, count_of};
@@ -89,6 +90,43 @@ impl Survey {
     }
 
     fn take_call(
+        &mut self,
+        comms: &mut RankComms,
+        word: CallWord,
+        fields: &[Field],
+    ) -> Result<(), AllocError>
+        ensures same { self.new ≡ record self.old { keys = self.new.keys; named = self.new.named; got = self.new.got } }
+        ensures takes { OnOk result ((before names : List SaidKey) (it : say.RankComms) → HasRank before names it self.old comms.old →
+            Keeps before (names ++ names_by it (words.Call word) fields.now) (after_call it (called word fields.now)) self.old self.new comms.new) }
+    {
+        if is_plain(word) {
+            self.take_plain(comms, word, fields)?;
+            return Ok(());
+        }
+        self.take_other(comms, word, fields)?;
+        Ok(())
+    }
+
+    /// Takes a call that neither counts nor makes a communicator: it only names one.
+    fn take_plain(
+        &mut self,
+        comms: &mut RankComms,
+        word: CallWord,
+        fields: &[Field],
+    ) -> Result<(), AllocError>
+        requires { is_plain word ≡ true }
+        ensures same { self.new ≡ record self.old { keys = self.new.keys; named = self.new.named; got = self.new.got } }
+        ensures takes { OnOk result ((before names : List SaidKey) (it : say.RankComms) → HasRank before names it self.old comms.old →
+            Keeps before (names ++ names_by it (words.Call word) fields.now) (after_call it (called word fields.now)) self.old self.new comms.new) }
+    {
+        let on = comms.key_if(comm_in(word, fields));
+        self.name(on);
+        comms.take_plain();
+        self.take_of_group(None)?;
+        Ok(())
+    }
+
+    fn take_other(
         &mut self,
         comms: &mut RankComms,
         word: CallWord,

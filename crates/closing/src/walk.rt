@@ -14,7 +14,7 @@ ghost use Rattle.closing.specs.Made.{inferred_key};
 ghost use Rattle.closing.specs.Recording.{is_end, progress_first};
 ghost use Rattle.closing.specs.Steps.{Progress};
 ghost use Rattle.closing.specs.inner.Holds.{HasComms};
-ghost use Rattle.closing.specs.inner.Lists.{Stands};
+ghost use Rattle.closing.specs.inner.Lists.{Handed, Stands, has_place};
 ghost use Rattle.closing.specs.inner.Makers.{MayMake};
 ghost use Rattle.closing.specs.inner.Noted.{call_if, came_back_at, reports_in, line_if};
 ghost use Rattle.closing.specs.inner.Pending.{key_told, pending};
@@ -37,6 +37,7 @@ ghost use Rattle.closing.specs.inner.Walks.{Spot};
 
 use crate::called::{Called, read_call};
 use crate::choice::{Calls, Choice};
+use crate::freed::Freed;
 use crate::keys::Wave;
 use crate::last::{LastCall, Reports, last_call, reports_from};
 use crate::list::List;
@@ -221,12 +222,13 @@ impl Walk {
             IsWalk said (choice_in choice) run.new.keys it × Grows run.old.keys run.new.keys) }
     {
         let alone = run.keys.put_alone(u32::from(rank))?;
+        let freed = Freed::of(alloc, journal)?;
         let mut walk = Walk {
             rank,
             choice,
             last: None,
             comms: RankComms::first(alloc, alone)?,
-            list: List::new(alloc),
+            list: List::new(alloc, freed),
             requests: Standing::empty(alloc),
             late: Vec::new(alloc),
             ids: Vec::new(alloc),
@@ -249,8 +251,8 @@ impl Walk {
     /// A preface has fewer lines than a list may have.
     fn put_preface(&mut self, run: &Communicators) -> Result<(), AllocError>
         ensures same { OnOk result (self.new ≡ record self.old { list = self.new.list }) }
-        ensures stands { OnOk result ((said : Run) → IsNumberedRun said run.now → self.old.rank < length said → IsTrue (list_all in_ranges (preface_of said self.old.rank)) →
-            Stands [] (record { records = []; active = []; late = [] }) self.old.list → Stands [] (progress_first said self.old.rank) self.new.list) }
+        ensures stands { OnOk result ((said : Run) (handed : Handed) → IsNumberedRun said run.now → self.old.rank < length said → IsTrue (list_all in_ranges (preface_of said self.old.rank)) →
+            Stands handed (record { records = []; active = []; late = [] }) self.old.list → Stands handed (progress_first said self.old.rank) self.new.list) }
     {
         for line in 0..run.preface.count() {
             self.list.put(run.preface.split(line, self.rank))?;
@@ -285,6 +287,7 @@ impl Walk {
     fn leave(&mut self, why: Why) -> Result<(), AllocError>
         ensures same { self.new ≡ record self.old { list = self.new.list; is_over = true; left = Some (record { line = self.old.line; why = why }) } }
         ensures end { OnOk result (self.new.list.records.items ≡ self.old.list.records.items ++ Open ∷ []) }
+        ensures freed { self.new.list.freed ≡ self.old.list.freed }
     {
         self.left = Some(Left {
             line: self.line,
@@ -296,6 +299,7 @@ impl Walk {
     fn finish(&mut self, end: Call) -> Result<(), AllocError>
         ensures same { self.new ≡ record self.old { list = self.new.list; is_over = true } }
         ensures end { OnOk result (IsTrue (in_ranges end) → self.new.list.records.items ≡ self.old.list.records.items ++ end ∷ []) }
+        ensures freed { self.new.list.freed ≡ self.old.list.freed }
     {
         self.is_over = true;
         self.list.put(end)
@@ -315,8 +319,9 @@ impl Walk {
         ensures same { self.new ≡ record self.old { list = self.new.list; handed = self.new.handed } }
         ensures none { self.new.list.records.items ≡ [] }
         ensures handed { self.old.handed + length self.old.list.records.items < 2 ^ 64 → self.new.handed ≡ self.old.handed + length self.old.list.records.items }
-        ensures stands { (handed : Items Call) (progress : Progress) → Stands handed progress self.old.list →
-            Stands (handed ++ self.old.list.records.items) progress self.new.list }
+        ensures stands { (handed : Handed) (progress : Progress) → Stands handed progress self.old.list →
+            Stands (record handed { calls = handed.calls ++ self.old.list.records.items }) progress self.new.list }
+        ensures freed { self.new.list.freed ≡ self.old.list.freed }
     {
         let count = self.list.records().len();
         self.handed = self.handed.saturating_add(count);
@@ -342,9 +347,11 @@ impl Walk {
         self.left
     }
 
-    /// The place of the record that starts a request which no line completes.
-    pub(crate) fn start_of(&self, request: u32) -> Option<u32> {
-        Some(self.list.active(self.requests.id_of(request))?.place)
+    /// Whether the record at a place starts a request that the rank's program frees.
+    pub(crate) fn starts_freed(&self, place: u32) -> bool
+        ensures { result ≡ has_place self.now.list.freed place }
+    {
+        self.list.starts_freed(place)
     }
 
     // ---- Entries ----
@@ -452,7 +459,7 @@ impl Walk {
         ensures same { self.new ≡ record self.old { comms = self.new.comms; list = self.new.list; requests = self.new.requests; late = self.new.late; ids = self.new.ids; wanted = self.new.wanted } }
         ensures outcomes { self.new.requests.outcomes ≡ self.old.requests.outcomes }
         ensures run { run.new ≡ record run.old { keys = run.new.keys } }
-        ensures entered { (said : Run) (heading : Heading) (handed : Items Call) (progress : Progress) →
+        ensures entered { (said : Run) (heading : Heading) (handed : Handed) (progress : Progress) →
             IsBefore said (record { heading = heading; lines = lines.now }) run.old self.old entry.now →
             IsReady said (choice_in self.old.choice) (record { heading = heading; lines = lines.now }) handed progress self.old entry.now →
             IsEntered said (choice_in self.old.choice) (placed_here self.old.rank (record { heading = heading; lines = lines.now }) entry.now.place entry.now.word)

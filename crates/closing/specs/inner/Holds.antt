@@ -1,5 +1,5 @@
 -- What a rank has, as it is kept: by places of keys and of groups.
-use Rattle.std.specs.Prelude.{◌≡◌, ℕ, ◌==◌, nat_eq, Option, Some, None, unwrap_or, option_map, option_and_then, List, [], ◌∷◌, ◌++◌}
+use Rattle.std.specs.Prelude.{◌≡◌, ℕ, ◌==◌, nat_eq, Option, Some, None, unwrap_or, option_map, option_and_then, List, [], ◌∷◌, ◌++◌, slice_get}
 use Rattle.std.specs.List.{AllZip, count_by}
 use Rattle.std.specs.HashMap.{HashMap, get}
 use Rattle.journals.specs.Lines.{Line}
@@ -14,6 +14,16 @@ use Rattle.closing.specs.RankComms.{RankComms, Wave, key_under, under, with_some
 use Rattle.closing.specs.Table.{Table}
 use Rattle.closing.specs.inner.Table.{HasKey, HasGroup, IsTable, IsPlaceOf, IsWaveOf}
 use Rattle.closing.specs.declared.rank_comms.RankComms.{RankComms as CommsCode}
+use Rattle.closing.specs.declared.rank_numbers.RankNumbers.{RankNumbers}
+
+-- a key in the list, or else in the map
+abbrev pub key_or : Option (Option ℕ) → Option ℕ → Option ℕ
+key_or (Some (Some key)) far = Some key
+key_or _ far = far
+
+-- the place of the key of a number
+abbrev pub key_kept : RankNumbers → ℕ → Option ℕ
+key_kept numbers number = key_or (slice_get numbers.near.items number) (get nat_eq numbers.far number)
 
 -- how often a place stood
 abbrev pub times_in : {S : Type 0} → HashMap ℕ ℕ S → ℕ → ℕ
@@ -28,7 +38,7 @@ pub record IsCounted {A S : Type 0} (Stands : ℕ → A → Type 0) (counts : Ha
 -- what is kept is what the rank has, with this table
 pub record HasComms (table : Table) (it : CommsCode) (comms : RankComms) : Type 0 where
   pub table_is : IsTable table
-  pub numbers : (number : ℕ) → IsPlaceOf table (get nat_eq it.numbers number) (under number comms.numbers)
+  pub numbers : (number : ℕ) → IsPlaceOf table (key_kept it.numbers number) (under number comms.numbers)
   pub waves : IsCounted (HasKey table) it.waves comms.waves
   pub duplicates : (request : ℕ) → IsWaveOf table (get nat_eq it.duplicates request) (under request comms.duplicates)
   pub groups : IsCounted (HasGroup table) it.groups comms.groups

@@ -1,12 +1,15 @@
 -- The list of a rank so far, as it is kept, against the progress of the definitions.
 use Rattle.std.specs.Prelude.{◌≡◌, ℕ, ◌+◌, ◌-◌, ◌<◌, ◌≤◌, nat_eq, Bool, true, false, Option, Some, None, option_map, Result, Ok, Err, List, [], ◌∷◌, ◌++◌, length, map, take, slice_get}
 use Rattle.std.specs.HashMap.{get}
+use Rattle.std.specs.HashSet.{contains}
 use Rattle.mpicall.specs.declared.call.Call.{Call}
 use Rattle.mpicall.specs.declared.call.Call.TheVariants.{Isend, Irecv, Icoll}
 use Rattle.closing.specs.Fit.{starts_send}
+use Rattle.closing.specs.Freed.{starts_one_of}
 use Rattle.closing.specs.Steps.{Id, Own, Whole, ReceiveHalf, Written, Progress, number_in, has_number, least_free, without, without_all, numbers_of}
 use Rattle.closing.specs.inner.Free.{Requests, AreNumbered}
 use Rattle.mpicall.specs.declared.limits.TheConstants.{GREATEST_REQUEST}
+use Rattle.closing.specs.declared.freed.Freed.{Freed}
 use Rattle.closing.specs.declared.list.List.{List as ListCode}
 use Rattle.closing.specs.declared.list.Active.{Active}
 use Rattle.closing.specs.declared.list.Start.{Start}
@@ -14,7 +17,6 @@ use Rattle.closing.specs.declared.list.Start.TheVariants as start
 use Rattle.closing.specs.declared.list.TheConstants.{MOST_RECORDS}
 use Rattle.closing.specs.declared.stop.Stop.{Stop}
 use Rattle.closing.specs.declared.stop.Stop.TheVariants.{Left, Memory}
-use Rattle.closing.specs.declared.why.Why.{Why}
 use Rattle.closing.specs.declared.why.Why.TheVariants.{TooLong}
 
 -- ---- What starts a request ----
@@ -58,9 +60,33 @@ abbrev pub AreApart : Requests → Type 0
 AreApart [] = Unit {0}
 AreApart (one ∷ others) = IsApart one others × AreApart others
 
+-- ---- Requests that are freed ----
+
+abbrev pub has_id : Freed → ℕ → Bool
+has_id it id = contains nat_eq it.ids id
+
+abbrev pub has_place : Freed → ℕ → Bool
+has_place it place = contains nat_eq it.places place
+
+-- what stands for the requests that are freed is this; no other is
+pub record HasIds (frees : Id → Bool) (it : Freed) : Type 0 where
+  pub own : (id : ℕ) → has_id it id ≡ frees (Own id)
+  pub unnamed : (id : Id) → IsUnnamed id → frees id ≡ false
+
+-- these records start one at the places that are kept
+abbrev pub HasPlaces : (Id → Bool) → List Written → Freed → Type 0
+HasPlaces frees records it = (place : ℕ) → has_place it place ≡ starts_one_of frees (slice_get records place)
+
+-- ---- A list ----
+
+-- what stays as entries are taken: the calls that were handed on, and which requests the rank's program frees
+pub record Handed : Type 0 where
+  pub calls : List Call
+  pub frees : Id → Bool
+
 -- the list has these records, of which some were handed on, and these active requests
-pub record Stands (handed : List Call) (progress : Progress) (it : ListCode) : Type 0 where
-  pub records : calls_in progress.records ≡ handed ++ it.records.items
+pub record Stands (handed : Handed) (progress : Progress) (it : ListCode) : Type 0 where
+  pub records : calls_in progress.records ≡ handed.calls ++ it.records.items
   pub count : it.count ≡ length progress.records
   pub short : it.count < MOST_RECORDS
   pub given : it.given ≤ it.count
@@ -68,15 +94,18 @@ pub record Stands (handed : List Call) (progress : Progress) (it : ListCode) : T
   pub apart : AreApart progress.active
   pub own : (id : ℕ) → option_map (λ active. active.number) (get nat_eq it.active id) ≡ number_in progress.active (Own id)
   pub started : (id : ℕ) → IsStarted progress.records id (get nat_eq it.active id)
+  pub ids : HasIds handed.frees it.freed
+  pub places : HasPlaces handed.frees progress.records it.freed
 
 -- the list ends within the records of this line: it has all but one of the most records, and its end has room
-pub record IsCut (handed : List Call) (progress : Progress) (line : ℕ) (it : ListCode) : Type 0 where
+pub record IsCut (handed : Handed) (progress : Progress) (line : ℕ) (it : ListCode) : Type 0 where
   pub long : MOST_RECORDS ≤ length progress.records
-  pub records : take (MOST_RECORDS - 1) (calls_in progress.records) ≡ handed ++ it.records.items
+  pub records : take (MOST_RECORDS - 1) (calls_in progress.records) ≡ handed.calls ++ it.records.items
   pub ends_at : option_map (λ it. it.line) (slice_get progress.records (MOST_RECORDS - 1)) ≡ Some line
+  pub places : HasPlaces handed.frees (take (MOST_RECORDS - 1) progress.records) it.freed
 
 -- it came so far with this line, or is too long
-abbrev pub ComesTo : {A : Type 0} → Result A Stop → List Call → Progress → ℕ → ListCode → Type 0
+abbrev pub ComesTo : {A : Type 0} → Result A Stop → Handed → Progress → ℕ → ListCode → Type 0
 ComesTo (Ok done) handed progress line it = Stands handed progress it
 ComesTo (Err (Left TooLong)) handed progress line it = IsCut handed progress line it
 ComesTo (Err (Left why)) handed progress line it = ⊥
@@ -92,11 +121,13 @@ pub record Puts (old new : ListCode) (calls : List Call) : Type 0 where
   pub free : new.free ≡ old.free
   pub given : new.given ≡ old.given
   pub numbers : new.numbers ≡ old.numbers
+  pub freed : new.freed ≡ old.freed
 
 -- as many of them as have room, where that isn't all
 pub record Cuts (old new : ListCode) (calls : List Call) : Type 0 where
   pub long : MOST_RECORDS ≤ old.count + length calls
   pub records : new.records.items ≡ old.records.items ++ take (MOST_RECORDS - 1 - old.count) calls
+  pub freed : new.freed ≡ old.freed
 
 abbrev pub Adds : {A : Type 0} → Result A Stop → ListCode → ListCode → List Call → Type 0
 Adds (Ok done) old new calls = Puts old new calls × (new.count < MOST_RECORDS)
@@ -109,6 +140,7 @@ pub record KeepsRecords (old new : ListCode) : Type 0 where
   pub records : new.records.items ≡ old.records.items
   pub count : new.count ≡ old.count
   pub active : new.active ≡ old.active
+  pub freed : new.freed ≡ old.freed
 
 -- the least number that no active request has is taken
 pub record TakesFree (active : Requests) (old new : ListCode) (number : ℕ) : Type 0 where
@@ -125,6 +157,7 @@ pub record FreesOnly (old new : ListCode) : Type 0 where
   pub active : new.active ≡ old.active
   pub given : new.given ≡ old.given
   pub numbers : new.numbers ≡ old.numbers
+  pub freed : new.freed ≡ old.freed
 
 -- ---- Active requests ----
 
@@ -152,6 +185,7 @@ pub record KeepsLines (old new : ListCode) : Type 0 where
   pub count : new.count ≡ old.count
   pub free : new.free ≡ old.free
   pub given : new.given ≡ old.given
+  pub freed : new.freed ≡ old.freed
   pub started : (records : List Written) (id : ℕ) → IsStarted records id (get nat_eq old.active id) → IsStarted records id (get nat_eq new.active id)
 
 -- the number of a request is listed, and the request active no longer
@@ -186,3 +220,4 @@ pub record FindsOnly (old new : ListCode) : Type 0 where
   pub active : new.active ≡ old.active
   pub free : new.free ≡ old.free
   pub given : new.given ≡ old.given
+  pub freed : new.freed ≡ old.freed

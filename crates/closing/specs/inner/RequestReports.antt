@@ -1,11 +1,6 @@
 -- What is kept of the requests of a journal, against what its lines say of them.
-use Rattle.std.specs.Prelude.{◌≡◌, ℕ, ◌≤◌, ◌<◌, ◌^◌, Bool, ◌||◌, is_some, List, [], ◌∷◌, length}
-use Rattle.std.specs.List.{count_by}
+use Rattle.std.specs.Prelude.{◌≡◌, ℕ, ◌≤◌, ◌<◌, ◌^◌, List, [], ◌∷◌, length}
 use Rattle.journals.specs.Lines.{Line}
-use Rattle.journals.specs.declared.field.Field.{Field}
-use Rattle.journals.specs.declared.word.Word.{Word}
-use Rattle.journals.specs.declared.word.Word.TheVariants.{Report}
-use Rattle.journals.specs.declared.word.ReportWord.TheVariants as report
 use Rattle.closing.specs.Reported.{done_in, done_of, says_gone, says_kept}
 use Rattle.closing.specs.Reported as say
 use Rattle.closing.specs.Fit.{AreFormed, report_count}

@@ -14,14 +14,15 @@ use Rattle.closing.specs.Endings.{size_at, number_at}
 use Rattle.closing.specs.Made.{key_made, wave_at}
 use Rattle.closing.specs.Numbers.{named_key}
 use Rattle.closing.specs.RankComms.{RankComms, comms_first, after_lines}
-use Rattle.closing.specs.Entries.{Run, Placed, placed_at, entries_from, journal_at}
+use Rattle.closing.specs.Entries.{Run, Placed, placed_at, entries_from, journal_at, lines_at}
 use Rattle.closing.specs.Entry.{Choice, matched_message}
 use Rattle.closing.specs.Steps.{Id, Own, Written, Progress, Step, after_steps}
 use Rattle.closing.specs.Recording.{Listed, Outcome, GoesOn, Ends, calls_of, list_from, list_of, outcome_of, whole_list}
 use Rattle.closing.specs.Fit.{EntriesFit, IsFit, TestsFit}
+use Rattle.closing.specs.Freed.{is_freed}
 use Rattle.closing.specs.Recordings.{left_in, line_at}
 use Rattle.closing.specs.inner.Holds.{HasComms}
-use Rattle.closing.specs.inner.Lists.{Stands}
+use Rattle.closing.specs.inner.Lists.{Handed, HasPlaces, Stands}
 use Rattle.closing.specs.inner.Noted.{AreReports, IsLastCall, reports_in}
 use Rattle.closing.specs.inner.Numbered.{IsNumberedRun}
 use Rattle.closing.specs.inner.RequestReports.{Tells}
@@ -70,9 +71,10 @@ pub record HasCalls (listed : Listed) (handed items rest : List Call) (before li
 
 -- the list goes on: it came so far by the lines before the next, which is a call line, or there is none
 pub record IsSoFar (run : Run) (choice : Choice) (journal : Journal) (table : Table) (walk : Walk) : Type 0 where
-  pub handed : List Call
+  pub handed : Handed
   pub progress : Progress
-  pub count : length handed ≡ walk.handed
+  pub count : length handed.calls ≡ walk.handed
+  pub frees : handed.frees ≡ is_freed journal.lines
   pub stands : Stands handed progress walk.list
   pub late : map Own walk.late.items ≡ progress.late
   pub list : list_from run choice progress (entries_left walk.rank journal walk.next) ≡ whole_list run choice walk.rank
@@ -108,10 +110,11 @@ pub record IsPart (listed : Listed) (walk : Walk) : Type 0 where
   pub count : length handed ≡ walk.handed
   pub over : walk.is_over ≡ true → (rest ≡ []) × (walk.left ≡ left_in listed)
 
--- the list of a rank: a part of it is there, and it goes on or has ended
+-- the list of a rank: a part of it is there, and it goes on or has ended, and then it is kept where it starts freed requests
 pub record IsWalk (run : Run) (choice : Choice) (table : Table) (walk : Walk) : Type 0 where
   pub part : IsPart (list_of run choice walk.rank) walk
   pub on : walk.is_over ≡ false → IsOn run choice table walk
+  pub freed : walk.is_over ≡ true → HasPlaces (is_freed (lines_at run walk.rank)) (list_of run choice walk.rank).records walk.list.freed
 
 -- ---- An entry ----
 
@@ -150,7 +153,7 @@ pub record IsAtEntry (run : Run) (choice : Choice) (placed : Placed) (kept : Com
 
 -- the list after an entry that stands for this: it came so far, and goes on, or ends with the rank's calls, or is to be
 -- ended there
-abbrev pub Entered : Result Bool Stop → Outcome → List Call → Progress → ℕ → ListCode → Type 0
+abbrev pub Entered : Result Bool Stop → Outcome → Handed → Progress → ℕ → ListCode → Type 0
 Entered (Ok true) (GoesOn steps) handed progress line it = ⊥
 Entered (Ok true) (Ends steps end why) handed progress line it =
     (end ≡ Finalize) × ((why ≡ None) × Stands handed (after_steps progress line steps) it)
@@ -158,7 +161,7 @@ Entered (Ok false) outcome handed progress line it = Follows {A = Bool} outcome 
 Entered (Err stop) outcome handed progress line it = Follows {A = Bool} outcome (Err stop) handed progress line it
 
 -- what else is known of a rank at an entry: how far its list came, and that the entry fits
-pub record IsReady (run : Run) (choice : Choice) (journal : Journal) (handed : List Call) (progress : Progress) (walk : Walk) (entry : EntryCode) : Type 0 where
+pub record IsReady (run : Run) (choice : Choice) (journal : Journal) (handed : Handed) (progress : Progress) (walk : Walk) (entry : EntryCode) : Type 0 where
   pub fit : IsFit run choice
   pub stands : Stands handed progress walk.list
   pub late : map Own walk.late.items ≡ progress.late
@@ -174,7 +177,7 @@ pub record StaysOn (table : Table) (lines : List Line) (place : ℕ) (late : Lis
   pub requests : (request : ℕ) → message_for walk.requests request ≡ matched_message (take place lines) request
 
 -- what is known after an entry: of its list, of what is kept where that goes on, and of the keys unless memory ran out
-pub record IsEntered (run : Run) (choice : Choice) (placed : Placed) (result : Result Bool Stop) (handed : List Call) (progress : Progress) (old now : Table) (place : ℕ) (walk : Walk) : Type 0 where
+pub record IsEntered (run : Run) (choice : Choice) (placed : Placed) (result : Result Bool Stop) (handed : Handed) (progress : Progress) (old now : Table) (place : ℕ) (walk : Walk) : Type 0 where
   pub list : Entered result (outcome_of run choice placed) handed progress placed.line walk.list
   pub on : (steps : List Step) → result ≡ Ok false → outcome_of run choice placed ≡ GoesOn steps
       → StaysOn now placed.journal.lines place (after_steps progress placed.line steps).late walk

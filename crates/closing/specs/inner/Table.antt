@@ -3,7 +3,7 @@ use Rattle.std.specs.Prelude.{◌≡◌, ◌⊎◌, ℕ, ◌<◌, Option, Some, 
 use Rattle.std.specs.List.{range_with_len}
 use Rattle.closing.specs.Keys.{Key, World, Alone, Made, Duplicated, OfGroup, Apart}
 use Rattle.closing.specs.RankComms.{Wave}
-use Rattle.closing.specs.Table.{Table, group_or_none, group_place}
+use Rattle.closing.specs.Table.{Table, group_or_none}
 use Rattle.closing.specs.declared.keys.Key.{Key as KeyCode}
 use Rattle.closing.specs.declared.keys.Key.TheVariants as code
 use Rattle.closing.specs.declared.keys.Wave.{Wave as WaveCode}

@@ -1,18 +1,16 @@
 -- What the code has of where an entry's call stands, and the list of a rank after what stands for an entry.
-use Rattle.std.specs.Prelude.{◌≡◌, ℕ, ◌≤◌, Bool, true, false, IsTrue, IfSome, ◌==◌, if◌then◌else◌, Option, Some, None, is_some, is_none, option_map, Result, Ok, Err, List, [], ◌∷◌, ◌++◌, length, map, slice_get}
-use Rattle.mpicall.specs.Limits.{in_ranges}
+use Rattle.std.specs.Prelude.{◌≡◌, ℕ, ◌≤◌, Bool, true, false, IfSome, ◌==◌, if◌then◌else◌, Option, Some, None, is_none, option_map, Result, Ok, Err, List, [], ◌∷◌, ◌++◌, length, map}
 use Rattle.mpicall.specs.Word.{or_else}
-use Rattle.mpicall.specs.declared.call.Call.{Call}
 use Rattle.journals.specs.Lines.{Line}
 use Rattle.journals.specs.Taking.{fields_at as fields_in}
 use Rattle.journals.specs.declared.field.Field.{Field}
-use Rattle.closing.specs.Called.{Called, ReceivesMatched, StartsMatched, Waits, Tests, WaitsAny, WaitsSome, MakesOfGroup, comm_of, naturals_in}
-use Rattle.closing.specs.Entry.{Choice, id_of, is_of_send, passes_tests}
-use Rattle.closing.specs.Steps.{Id, Own, Whole, ReceiveHalf, Written, Progress, Step, Does, Starts, PutsOff, number_in, after_step, after_steps}
+use Rattle.closing.specs.Called.{Called, StartsMatched, Tests, MakesOfGroup, comm_of, naturals_in}
+use Rattle.closing.specs.Entry.{Choice, passes_tests}
+use Rattle.closing.specs.Steps.{Id, Own, Progress, Step, PutsOff, after_steps}
 use Rattle.closing.specs.Recording.{Outcome, GoesOn, Ends}
 use Rattle.closing.specs.Fit.{AllFit, AllHaveKind, steps_in, waited}
-use Rattle.closing.specs.inner.Lists.{Stands, IsCut, ComesTo}
-use Rattle.closing.specs.Reported.{Message as Said, is_gone}
+use Rattle.closing.specs.inner.Lists.{Handed, Stands, IsCut, ComesTo}
+use Rattle.closing.specs.Reported.{Message as Said}
 use Rattle.closing.specs.inner.RequestReports.{AllStandFor, Tells}
 use Rattle.closing.specs.inner.Views.{called_view, message_view}
 use Rattle.closing.specs.inner.Walks.{Spot, outcome_on}
@@ -97,33 +95,33 @@ TestFits choice spot it progress = Unit {0}
 -- ---- The list after an entry ----
 
 -- the list came so far, and is to end there
-abbrev pub EndsAt : {A : Type 0} → Result A Stop → List Call → Progress → ℕ → Option Why → ListCode → Type 0
+abbrev pub EndsAt : {A : Type 0} → Result A Stop → Handed → Progress → ℕ → Option Why → ListCode → Type 0
 EndsAt (Ok done) handed progress line why it = ⊥
 EndsAt (Err (Left TooLong)) handed progress line why it = IsCut handed progress line it
 EndsAt (Err (Left found)) handed progress line why it = (why ≡ Some found) × Stands handed progress it
 EndsAt (Err Memory) handed progress line why it = Unit {0}
 
 -- it came so far by an entry that stands for this, or is to end at it
-abbrev pub Follows : {A : Type 0} → Outcome → Result A Stop → List Call → Progress → ℕ → ListCode → Type 0
+abbrev pub Follows : {A : Type 0} → Outcome → Result A Stop → Handed → Progress → ℕ → ListCode → Type 0
 Follows (GoesOn steps) result handed progress line it = ComesTo result handed (after_steps progress line steps) line it
 Follows (Ends steps end why) result handed progress line it = EndsAt result handed (after_steps progress line steps) line why it
 
 -- a method that takes an entry whose call stands at a spot: what it does to the list
 abbrev pub Takes : {A : Type 0} → Spot → Outcome → Result A Stop → ListCode → ListCode → Type 0
 Takes spot outcome result old new =
-    (handed : List Call) (progress : Progress) → Stands handed progress old → AllFit progress spot.line (steps_in outcome)
+    (handed : Handed) (progress : Progress) → Stands handed progress old → AllFit progress spot.line (steps_in outcome)
     → Follows outcome result handed progress spot.line new
 
 -- likewise where more is known of how far the list came
 abbrev pub TakesWhere : {A : Type 0} → (Progress → Type 0) → Spot → Outcome → Result A Stop → ListCode → ListCode → Type 0
 TakesWhere Holds spot outcome result old new =
-    (handed : List Call) (progress : Progress) → Stands handed progress old → AllFit progress spot.line (steps_in outcome)
+    (handed : Handed) (progress : Progress) → Stands handed progress old → AllFit progress spot.line (steps_in outcome)
     → Holds progress → Follows outcome result handed progress spot.line new
 
 -- the requests that are waited for right before the end, with those that the entry puts off
 abbrev pub LateWhere : (Progress → Type 0) → Outcome → ListCode → List ℕ → List ℕ → Type 0
 LateWhere Holds outcome list old new =
-    (handed : List Call) (progress : Progress) → Stands handed progress list → Holds progress
+    (handed : Handed) (progress : Progress) → Stands handed progress list → Holds progress
     → map Own new ≡ map Own old ++ late_in (steps_in outcome)
 
 -- ---- An entry by its call ----

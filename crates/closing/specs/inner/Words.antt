@@ -1,9 +1,9 @@
 -- What call lines say, as the code asks for it: by some words at a time.
-use Rattle.std.specs.Prelude.{List}
+use Rattle.std.specs.Prelude.{Bool, true, false, List}
 use Rattle.journals.specs.declared.field.Field.{Field}
 use Rattle.journals.specs.declared.word.CallWord.{CallWord}
 use Rattle.journals.specs.declared.word.CallWord.TheVariants as call
-use Rattle.closing.specs.Called.{Called, Nothing, called}
+use Rattle.closing.specs.Called.{Called, Collects, StartsCollective, Duplicates, StartsDuplicate, Splits, Makes, MakesOfGroup, Nothing, called}
 
 -- a collective; of another call nothing
 abbrev pub by_collective : CallWord → List Field → Called
@@ -60,3 +60,38 @@ by_message call.Improbe fields = called call.Improbe fields
 by_message call.Mrecv fields = called call.Mrecv fields
 by_message call.Imrecv fields = called call.Imrecv fields
 by_message word fields = by_comm word fields
+
+-- such a call neither counts among those on a communicator nor makes one
+abbrev pub is_plain : CallWord → Bool
+is_plain call.Send = true
+is_plain call.Ssend = true
+is_plain call.Bsend = true
+is_plain call.Rsend = true
+is_plain call.Isend = true
+is_plain call.Issend = true
+is_plain call.Ibsend = true
+is_plain call.Irsend = true
+is_plain call.Recv = true
+is_plain call.Irecv = true
+is_plain call.Sendrecv = true
+is_plain call.Isendrecv = true
+is_plain call.Probe = true
+is_plain call.Iprobe = true
+is_plain call.Mprobe = true
+is_plain call.Improbe = true
+is_plain call.Wait = true
+is_plain call.Test = true
+is_plain call.Waitany = true
+is_plain call.Waitsome = true
+is_plain _ = false
+
+-- it counts among those on a communicator, or makes one of a group
+abbrev pub counts : Called → Bool
+counts (Collects collective comm root) = true
+counts (StartsCollective request collective comm root) = true
+counts (Duplicates comm) = true
+counts (StartsDuplicate request comm) = true
+counts (Splits comm colour key) = true
+counts (Makes comm) = true
+counts (MakesOfGroup group) = true
+counts _ = false

@@ -4,7 +4,7 @@ use Rattle.std.specs.Prelude.{slice_get}
 use Rattle.std.proofs.lemmas.Option.{slice_get_read}
 use Rattle.closing.specs.inner.Rankwise.{AreFew, HaveWalks}
 use Rattle.closing.specs.declared.walk.Walk.{Walk}
-use Rattle.closing.proofs.RecordedLemmas.{begun_at, first_numbered, handed_more, one_more_walk}
+use Rattle.closing.proofs.RecordedLemmas.{begun_at, first_numbered, none_more, one_more_walk}
 use Rattle.closing.proofs.recording.walks_of.Goals as goal
 
 pub loop-rank-preserved : goal.loop-rank-preserved
@@ -25,7 +25,9 @@ loop-rank-preserved c =
     record {
       count = omega (arith, c.loop-rank.invariant.count, ap length items, length-append walks (walk ∷ []));
       handed = subst (λ (xs : List Walk). map (λ (one : Walk). one.handed) xs ≡ replicate (length xs) 0) (sym items)
-          (handed_more walks walk c.loop-rank.invariant.handed c.in_ok-walk.ensures.handed);
+          (none_more (λ one. one.handed) walks walk c.loop-rank.invariant.handed c.in_ok-walk.ensures.handed);
+      before = subst (λ (xs : List Walk). map (λ (one : Walk). one.before) xs ≡ replicate (length xs) 0) (sym items)
+          (none_more (λ one. one.before) walks walk c.loop-rank.invariant.before c.in_ok-walk.ensures.before);
       numbered = λ first few. first_numbered journals choice old new rank walk (begun few) (c.loop-rank.invariant.numbered first few);
       have = λ first few.
           subst (λ (xs : List Walk). HaveWalks journals choice new xs) (sym items)

@@ -11,6 +11,7 @@ abbrev pub invariant-loop-rank : goal.invariant-loop-rank
 invariant-loop-rank l = record {
   count : length l.walks.items ≡ l.rank;
   handed : map (λ walk. walk.handed) l.walks.items ≡ replicate (length l.walks.items) 0;
+  before : map (λ walk. walk.before) l.walks.items ≡ replicate (length l.walks.items) 0;
   numbered : (IsFit (run_in l.journals) (choice_in l.choice) → IsNumberedRun (run_in l.journals) l.fn.run) → AreFew l.journals
       → IsFit (run_in l.journals) (choice_in l.choice) → IsNumberedRun (run_in l.journals) l.run;
   have : (IsFit (run_in l.journals) (choice_in l.choice) → IsNumberedRun (run_in l.journals) l.fn.run) → AreFew l.journals

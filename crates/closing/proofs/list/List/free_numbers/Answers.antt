@@ -1,5 +1,5 @@
 -- One number more is free again.
-use Rattle.std.proofs.Common.{◌≡◌, ◌∙◌, ◌<◌, ◌≤◌, ap, arith, get_or, length, refl, subst, take}
+use Rattle.std.proofs.Common.{◌≡◌, ◌∙◌, ◌<◌, ◌≤◌, ap, arith, get_or, length, refl, subst}
 use Rattle.std.proofs.lemmas.List.{take_all}
 use Rattle.closing.specs.Steps.{without_all}
 use Rattle.closing.specs.inner.Free.{AreNumbered}
@@ -8,7 +8,7 @@ use Rattle.closing.proofs.list.List.free_numbers.Goals as goal
 
 pub loop-place-init : goal.loop-place-init
 loop-place-init c = record {
-  same = record { records = refl; count = refl; active = refl; given = refl; numbers = refl };
+  same = record { records = refl; count = refl; active = refl; given = refl; numbers = refl; freed = refl };
   frees = λ active are comms. record { numbered = are; comms = comms };
 }
 

@@ -13,4 +13,5 @@ returns-clause-stands c = λ handed progress line stands fits room.
       free = refl;
       given = refl;
       numbers = refl;
+      freed = refl;
     }) room

@@ -1,5 +1,5 @@
 -- The line starts the request as one with the least number that is free, which is active then.
-use Rattle.std.proofs.Common.{◌≡◌, ◌<◌, [], ◌∷◌, arith, refl, subst, Err}
+use Rattle.std.proofs.Common.{◌<◌, [], ◌∷◌, arith, refl, subst, Err}
 use Rattle.std.specs.Prelude.{IsTrue}
 use Rattle.std.proofs.lemmas.Result.{err_from_is_err_and}
 use Rattle.mpicall.specs.Limits.{in_ranges}
@@ -19,6 +19,7 @@ returns c = λ handed progress line stands fits free.
     (record { number = c.take_number-number.result; place = c.take_number-number.new.self.count; is_send = c.is_send.result }) c.args.id
     stands free c.take_number-number.ensures.same takes (adds may.0 may.1).0 (adds may.0 may.1).1
     (record { records = refl; count = refl; free = refl; given = refl }) c.in_ok-insert.ensures.updates.0 refl c.is_send.ensures
+    c.in_ok-take_start.ensures.ids c.in_ok-take_start.ensures.places
 
 pub returns-in_err-add : goal.returns-in_err-add
 returns-in_err-add c = λ handed progress line stands fits free.
@@ -33,4 +34,9 @@ returns-in_err-add c = λ handed progress line stands fits free.
 pub returns-in_err-insert : goal.returns-in_err-insert
 returns-in_err-insert c = λ handed progress line stands fits free.
     let p = err_from_is_err_and c.from_residual-in_err-insert.result c.from_residual-in_err-insert.ensures.1 in
+    rw (p.1, p.2) tt
+
+pub returns-in_err-take_start : goal.returns-in_err-take_start
+returns-in_err-take_start c = λ handed progress line stands fits free.
+    let p = err_from_is_err_and c.from_residual-in_err-take_start.result c.from_residual-in_err-take_start.ensures.1 in
     rw (p.1, p.2) tt

@@ -1,5 +1,5 @@
 -- One request more is taken.
-use Rattle.std.proofs.Common.{◌≡◌, ◌<◌, ◌≤◌, ◌+◌, ◌∷◌, ap, arith, subst, length, map, drop, get_or}
+use Rattle.std.proofs.Common.{◌<◌, ◌≤◌, ◌+◌, ap, arith, subst, length, map, drop, get_or}
 use Rattle.std.proofs.lemmas.List.{drop_all, drop_more}
 use Rattle.closing.specs.Steps.{Own, without_all}
 use Rattle.closing.proofs.RequestLemmas.{all_apart}

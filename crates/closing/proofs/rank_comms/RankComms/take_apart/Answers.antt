@@ -46,7 +46,7 @@ returns-clause-comms c comms is =
     let key : HasKey d c.in_ok-key.key made = put ∙ ap (λ (k : Key). Some k) (apart_is b group c.in_ok-count.count (group_count said comms.apart) said count has) in
     let new : CommsCode = record old { numbers = c.insert.new.self; apart = c.count_on.new.counts } in
     comms_with a d old new comms ((c.args.comm, made) ∷ comms.numbers) (comms.keys ++ made ∷ []) comms.wave (comms.apart ++ said ∷ []) is grows refl
-    (numbers_with a d old new comms c.args.comm c.in_ok-key.key made is grows c.in_ok-insert.ensures.updates.0 key)
+    (numbers_with a d old new comms c.args.comm c.in_ok-key.key made is grows c.in_ok-insert.ensures key)
     (wave_grows a d old.wave comms.wave grows is.wave)
     (counted_more (HasGroup d) old.apart c.count_on.new.counts comms.apart group said
     (counted_grows (HasGroup a) (HasGroup d) grows.groups old.apart comms.apart is.apart) c.in_ok-count.ensures.more (second.groups group said has))

@@ -4,7 +4,7 @@ use Rattle.std.specs.HashMap.{get}
 use Rattle.closing.specs.RankComms.{under}
 use Rattle.closing.specs.inner.Table.{Grows, HasGroup, HasKey}
 use Rattle.closing.specs.RankComms.{wave_next}
-use Rattle.closing.specs.inner.Holds.{waves_with}
+use Rattle.closing.specs.inner.Holds.{key_kept, waves_with}
 use Rattle.closing.specs.inner.Views.{called_view}
 use Rattle.closing.proofs.HoldsLemmas.{counted_grows, place_grows, wave_grows}
 use Rattle.closing.proofs.rank_comms.RankComms.take_call.Goals as goal
@@ -20,7 +20,7 @@ returns-clause-comms c comms is on =
     let old = c.args.self.now in
     record {
       table_is = grows.table;
-      numbers = λ n. place_grows a b (get nat_eq old.numbers n) (under n comms.numbers) grows (is.numbers n);
+      numbers = λ n. place_grows a b (key_kept old.numbers n) (under n comms.numbers) grows (is.numbers n);
       waves = counted_grows (HasKey a) (HasKey b) grows.keys c.next_wave.new.waves (waves_with comms (wave_next comms it)) (c.in_ok-wave.ensures.counted a comms is.table_is is.waves on);
       duplicates = c.in_ok-note_duplicate.ensures b comms (wave_next comms it) wave
           (λ n. wave_grows a b (get nat_eq old.duplicates n) (under n comms.duplicates) grows (is.duplicates n));

@@ -54,7 +54,7 @@ returns-clause-comms c comms is =
     let new : CommsCode = record old { numbers = c.insert.new.self } in
     subst (λ (w : Option Wave). HasComms d new (with_key comms c.args.comm (option_map (duplicated_in said) w))) (sym at.1)
     (comms_with a d old new comms ((c.args.comm, duplicated_in said at.0) ∷ comms.numbers) (comms.keys ++ duplicated_in said at.0 ∷ []) comms.wave comms.apart is grows refl
-    (numbers_with a d old new comms c.args.comm c.in_ok-key.key (duplicated_in said at.0) is grows c.in_ok-insert.ensures.updates.0 key)
+    (numbers_with a d old new comms c.args.comm c.in_ok-key.key (duplicated_in said at.0) is grows c.in_ok-insert.ensures key)
     (wave_grows a d old.wave comms.wave grows is.wave)
     (counted_grows (HasGroup a) (HasGroup d) grows.groups old.apart comms.apart is.apart))
 

@@ -51,7 +51,7 @@ returns-clause-comms c comms is =
     let new : CommsCode = record old { numbers = c.insert.new.self; wave = None } in
     subst (λ (w : Option Wave). HasComms d new (record (with_key comms c.args.comm (option_map (made_in said) w)) { wave = None })) (sym at.1)
     (comms_with a d old new comms ((c.args.comm, made_in said at.0) ∷ comms.numbers) (comms.keys ++ made_in said at.0 ∷ []) None comms.apart is grows refl
-    (numbers_with a d old new comms c.args.comm c.in_ok-key.key (made_in said at.0) is grows c.in_ok-insert.ensures.updates.0 key)
+    (numbers_with a d old new comms c.args.comm c.in_ok-key.key (made_in said at.0) is grows c.in_ok-insert.ensures key)
     tt
     (counted_grows (HasGroup a) (HasGroup d) grows.groups old.apart comms.apart is.apart))
 

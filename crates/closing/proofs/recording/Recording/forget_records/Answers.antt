@@ -22,7 +22,7 @@ invariant_of-self c =
           forgotten_of (run_in c.self.inside.journals.items) c.self.inside.choice c.self.inside.run c.args.rank w.in-Some.walk.now w.forget_records.new.self w.forget_records.ensures.same
           (c.self.invariant.have.are fit c.args.rank w.in-Some.walk.now at) w.forget_records.ensures.none
           (w.forget_records.ensures.handed (made_few c.self.inside.ranks c.self.inside.journals.items c.self.inside.choice c.self.inside.run c.self.inside.walks.items c.args.rank w.in-Some.walk.now w.forget_records.new.self c.self.invariant at fit))
-          w.forget_records.ensures.stands)
+          w.forget_records.ensures.stands w.forget_records.ensures.freed)
           (λ fit other walk one. one))
       | in_default w ↦ rw w.self-inside-is c.self.invariant
     ]

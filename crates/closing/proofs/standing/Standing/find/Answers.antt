@@ -1,5 +1,5 @@
 -- What is listed is what the requests stand for.
-use Rattle.std.proofs.Common.{◌≡◌, ◌∙◌, ◌≤◌, ◌++◌, arith, ap, sym, length, drop, map}
+use Rattle.std.proofs.Common.{◌≡◌, ◌∙◌, ◌≤◌, ◌++◌, arith, ap, sym, length, map}
 use Rattle.std.proofs.lemmas.List.{append-nil, drop_all}
 use Rattle.closing.specs.Steps.{Own}
 use Rattle.closing.specs.inner.Standings.{ids_in}

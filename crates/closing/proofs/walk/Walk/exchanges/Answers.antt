@@ -1,4 +1,4 @@
-use Rattle.std.proofs.Common.{◌≡◌, sym, ◌∙◌, ap, true, false, Ok}
+use Rattle.std.proofs.Common.{◌≡◌, sym, ◌∙◌, ap, Ok}
 use Rattle.std.specs.Prelude.{option_map}
 use Rattle.closing.specs.inner.Views.{awaited_view, message_view, sent_view}
 use Rattle.closing.specs.inner.Walked.{number_or}

@@ -1,19 +1,24 @@
 -- The list of a rank with its preface alone, and what is reported before its first entry.
-use Rattle.std.proofs.Common.{◌≡◌, ◌∙◌, ap, refl, sym, subst, ℕ, false, Some, None, [], option_map}
-use Rattle.closing.specs.Entries.{journal_at}
+use Rattle.std.proofs.Common.{◌≡◌, ◌∙◌, ap, arith, refl, sym, subst, ℕ, false, List, Some, None, [], option_map}
+use Rattle.journals.specs.Lines.{Line}
+use Rattle.closing.specs.Entries.{journal_at, lines_at, lines_in}
+use Rattle.closing.specs.Freed.{is_freed}
 use Rattle.closing.specs.Journals.{journal_in}
 use Rattle.closing.specs.Keys.{Alone}
 use Rattle.closing.specs.RankComms.{comms_first}
 use Rattle.closing.specs.Recording.{progress_first}
 use Rattle.closing.specs.Recordings.{choice_in}
+use Rattle.closing.specs.Steps.{Own}
 use Rattle.closing.specs.Table.{Table}
 use Rattle.closing.specs.inner.Holds.{HasComms}
-use Rattle.closing.specs.inner.Lists.{Stands}
+use Rattle.closing.specs.inner.Lists.{HasIds, Stands}
+use Rattle.closing.specs.inner.Noted.{HavePlaces}
 use Rattle.closing.specs.inner.Table.{Grows, HasKey}
 use Rattle.closing.specs.declared.choice.Choice.{Choice}
 use Rattle.closing.specs.declared.numbers.Communicators.{Communicators}
 use Rattle.closing.specs.declared.walk.Walk.{Walk}
-use Rattle.closing.proofs.BegunLemmas.{IsEmpty, new_as, new_begun, new_left, readable_lines}
+use Rattle.closing.proofs.BegunLemmas.{IsEmpty, first_of, new_as, new_begun, new_left, readable_lines}
+use Rattle.closing.proofs.FreedIds.{unnamed_kept}
 use Rattle.closing.proofs.KeptLemmas.{run_grows}
 use Rattle.closing.proofs.TableLemmas.{grows_on}
 use Rattle.closing.proofs.walk.Walk.new.Goals as goal
@@ -100,8 +105,16 @@ returns-clause-walk c = λ said numbered fit within there few.
     let listed : put ≡ record empty { list = put.list } = c.in_ok-put_preface.ensures.same in
     let has : HasComms first put.comms (comms_first put.rank) =
     subst (λ (it : Walk). HasComms first it.comms (comms_first it.rank)) (sym listed) (c.in_ok-first.ensures first rank grows.table alone) in
-    let stands : Stands [] (progress_first said rank) put.list =
-    c.in_ok-put_preface.ensures.stands said (run_grows said c.args.run.now first numbered grows) within (fit.prefaces rank within) (c.new.ensures []) in
+    let lines : lines_at said rank ≡ lines_in (option_map (λ one. journal_in one.now) c.args.journal) = ap lines_in there in
+    let few_there : HavePlaces (lines_in (option_map (λ one. journal_in one.now) c.args.journal)) =
+    subst (λ (xs : List Line). HavePlaces xs) lines (omega (arith, few)) in
+    let ids : HasIds (is_freed (lines_at said rank)) c.in_ok-freed.freed = record {
+      own = λ id. c.in_ok-freed.ensures.ids few_there id ∙ ap (λ (xs : List Line). is_freed xs (Own id)) (sym lines);
+      unnamed = unnamed_kept (lines_at said rank);
+    } in
+    let stands : Stands (first_of said rank) (progress_first said rank) put.list =
+    c.in_ok-put_preface.ensures.stands said (first_of said rank) (run_grows said c.args.run.now first numbered grows) within (fit.prefaces rank within)
+    (c.new.ensures [] (first_of said rank) refl ids c.in_ok-freed.ensures.places) in
     elim c.match-journal.branch [
       | in-Some+in_ok-begin-in-Some w ↦
           let journal = journal_in w.in-Some.journal.now in
@@ -117,7 +130,7 @@ returns-clause-walk c = λ said numbered fit within there few.
           let at : journal_at said rank ≡ None = there ∙ ap (option_map _) w.in-None.is in
           let is =
           new_left said choice first empty put is_empty listed stands w.leave.new.self w.in_ok-leave-in-None.ensures.same
-          w.in_ok-leave-in-None.ensures.end at in
+          w.in_ok-leave-in-None.ensures.end w.in_ok-leave-in-None.ensures.freed at in
           new_as said choice c.args.run.now.keys (record c.args.run.now { keys = first }) c.match-journal.run w.leave.new.self c.match-journal.walk
           w.run-is w.walk-is is grows
     ]

@@ -1,4 +1,4 @@
-use Rattle.std.proofs.Common.{sym, ◌∙◌, true, false}
+use Rattle.std.proofs.Common.{sym, ◌∙◌}
 use Rattle.closing.specs.inner.Views.{awaited_view, message_view}
 use Rattle.closing.specs.Entry.{receive, start_receive}
 use Rattle.closing.proofs.FollowLemmas.{residual, receives_at, does_past, does_now, awaited_stops, awaited_goes}

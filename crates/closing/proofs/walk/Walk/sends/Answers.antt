@@ -1,4 +1,4 @@
-use Rattle.std.proofs.Common.{◌≡◌, sym, ◌∙◌, true, false, Ok}
+use Rattle.std.proofs.Common.{◌≡◌, sym, ◌∙◌, Ok}
 use Rattle.closing.specs.inner.Views.{sent_view}
 use Rattle.closing.specs.inner.Walked.{number_or}
 use Rattle.closing.specs.Endings.{sent_can_be}

@@ -1,4 +1,4 @@
-use Rattle.std.proofs.Common.{sym, ◌∙◌, false}
+use Rattle.std.proofs.Common.{sym, ◌∙◌}
 use Rattle.closing.proofs.EntryLemmas.{receive_put}
 use Rattle.closing.proofs.walk.Walk.starts_receive_of.Goals as goal
 

@@ -32,7 +32,7 @@ returns-in_default-clause-walk c = with_ok _ _ c.finish.result (λ end. λ said 
     c.in_default.not-Some word (c.call_at.ensures ∙ ap call_if at) in (
       step_opens said choice journal kept s fit numbered few there goes walk new none
           (ap (λ (it : Walk). it.rank) same) (ap (λ (it : Walk). it.handed) same) (ap (λ (it : Walk). it.before) same ∙ before) (ap (λ (it : Walk). it.line) same)
-          (ap (λ (it : Walk). it.left) same) (ap (λ (it : Walk). it.is_over) same) (end refl),
+          (ap (λ (it : Walk). it.left) same) (ap (λ (it : Walk). it.is_over) same) (end refl) c.finish.ensures.freed,
       grows_same kept.keys so.comms.table_is,
     )) c.finish.ensures.end
 
@@ -66,7 +66,7 @@ returns-in-Ok-true-clause-walk c = with_ok _ _ c.finish-in-Ok-true.result (λ en
     (is_before said choice journal kept s fit numbered few there goes walk word call c.saturating_add-self.result c.line_number-self.result reports before line are)
     (is_ready said choice journal kept s fit numbered few there goes walk word call c.saturating_add-self.result c.line_number-self.result reports before line are) in
     let is : c.take_entry.result ≡ Ok true = cc (c.in-Ok-true.is, c.in-Ok-true.field-0-test) in
-    step_ends said choice journal kept s fit numbered few there goes walk word call c.saturating_add-self.result c.line_number-self.result reports before line are now c.take_entry.result one c.take_entry.ensures.same entered c.finish-in-Ok-true.new.self is c.finish-in-Ok-true.ensures.same (end refl)) c.finish-in-Ok-true.ensures.end
+    step_ends said choice journal kept s fit numbered few there goes walk word call c.saturating_add-self.result c.line_number-self.result reports before line are now c.take_entry.result one c.take_entry.ensures.same entered c.finish-in-Ok-true.new.self is c.finish-in-Ok-true.ensures.same (end refl) c.finish-in-Ok-true.ensures.freed) c.finish-in-Ok-true.ensures.end
 
 pub returns-in-Ok-true-clause-more : goal.returns-in-Ok-true-clause-more
 returns-in-Ok-true-clause-more c = with_ok _ _ c.finish-in-Ok-true.result (λ end. λ said heading fit numbered few there goes walk.
@@ -192,7 +192,7 @@ returns-in-Err-Left-clause-walk c = with_ok _ _ c.leave.result (λ end. λ said 
     (is_before said choice journal kept s fit numbered few there goes walk word call c.saturating_add-self.result c.line_number-self.result reports before line are)
     (is_ready said choice journal kept s fit numbered few there goes walk word call c.saturating_add-self.result c.line_number-self.result reports before line are) in
     let is : c.take_entry.result ≡ Err (Left c.in-Err-Left.why) = cc (c.in-Err-Left.is, c.in-Err-Left.field-0-is) in
-    step_leaves said choice journal kept s fit numbered few there goes walk word call c.saturating_add-self.result c.line_number-self.result reports before line are now c.take_entry.result one c.take_entry.ensures.same entered c.leave.new.self c.in-Err-Left.why is c.leave.ensures.same end) c.leave.ensures.end
+    step_leaves said choice journal kept s fit numbered few there goes walk word call c.saturating_add-self.result c.line_number-self.result reports before line are now c.take_entry.result one c.take_entry.ensures.same entered c.leave.new.self c.in-Err-Left.why is c.leave.ensures.same end c.leave.ensures.freed) c.leave.ensures.end
 
 pub returns-in-Err-Left-clause-more : goal.returns-in-Err-Left-clause-more
 returns-in-Err-Left-clause-more c = with_ok _ _ c.leave.result (λ end. λ said heading fit numbered few there goes walk.

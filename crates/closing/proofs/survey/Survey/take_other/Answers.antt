@@ -8,7 +8,7 @@ use Rattle.closing.specs.inner.Table.{IsPlaceOf}
 use Rattle.closing.specs.inner.Views.{called_view}
 use Rattle.closing.specs.declared.survey.Survey.{Survey}
 use Rattle.closing.proofs.SurveyLemmas.{call_takes}
-use Rattle.closing.proofs.survey.Survey.take_call.Goals as goal
+use Rattle.closing.proofs.survey.Survey.take_other.Goals as goal
 
 pub returns-clause-takes : goal.returns-clause-takes
 returns-clause-takes c before names it is =
