@@ -14,3 +14,5 @@ pub mod PutLemmas
 pub mod CloseLemmas
 pub mod BegunLemmas
 pub mod ReportedLemmas
+pub mod SpotLemmas
+pub mod TableLemmas

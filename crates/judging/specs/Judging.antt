@@ -17,8 +17,9 @@ use Rattle.report.specs.declared.judged.LeftAt.{LeftAt}
 use Rattle.journals.specs.declared.limits.TheConstants.{MOST_RANKS}
 use Rattle.closing.specs.Entries.{Run}
 use Rattle.closing.specs.Entry.{Choice}
+use Rattle.closing.specs.Freed.{starts_freed}
 use Rattle.closing.specs.Journals.{RankFault, run_of}
-use Rattle.closing.specs.Recording.{recording_of, calls_of}
+use Rattle.closing.specs.Recording.{recording_of, calls_of, list_of}
 use Rattle.closing.specs.Recordings.{choice_in}
 use Rattle.closing.specs.Left.{Left, left_of}
 use Rattle.closing.specs.declared.choice.Calls.{Calls}
@@ -26,6 +27,7 @@ use Rattle.closing.specs.declared.choice.Calls.TheVariants.{Strict, Went}
 use Rattle.closing.specs.declared.why.Why.{Why}
 use Rattle.closing.specs.declared.why.Why.TheVariants as why
 use Rattle.judging.specs.JournalTexts.{Known, AreKnown, IsFaultOfFiles}
+use Rattle.judging.specs.NamedCalls.{HaveLines, HaveNumbers, calls_in, calls_named, lines_of}
 use Rattle.judging.specs.declared.judge.JudgeFault.{JudgeFault}
 use Rattle.judging.specs.declared.judge.JudgeFault.TheVariants.{Read, Memory, Write}
 use Rattle.judging.specs.declared.judge.Manner.{Manner}
@@ -42,10 +44,9 @@ abbrev pub reported_by : Calls → (ℕ → ℕ → Bool) → List Finding → L
 reported_by Went left_out findings = []
 reported_by Strict left_out findings = filter (λ finding. not (is_left_out left_out finding)) findings
 
--- of the findings nothing is left out but some requests
-pub record AreReported (calls : Calls) (findings reported : List Finding) : Type 0 where
-  pub left_out : ℕ → ℕ → Bool
-  pub are : reported ≡ reported_by calls left_out findings
+-- the rank's program frees the request that its list starts at the place
+abbrev pub frees_start : Run → Choice → ℕ → ℕ → Bool
+frees_start run choice rank place = starts_freed run rank (list_of run choice rank) place
 
 abbrev pub words_of : Why → List ℕ
 words_of why.NeverCameBack = codes "never came back"
@@ -75,8 +76,9 @@ left_said it = record { rank = it.rank; line = it.line; words = it.why.now }
 pub record IsRecordingOfRun (run : Run) (choice : Choice) (groups : Groups) (recording : Lists) (judged : Judged) : Type 0 where
   pub groups_are : groups ≡ (recording_of run choice).groups
   pub lists_are : recording ≡ map calls_of (recording_of run choice).lists
-  pub findings_are : AreReported choice.calls (findings_of groups recording) judged.findings.now
+  pub findings_are : judged.findings.now ≡ reported_by choice.calls (frees_start run choice) (findings_of groups recording)
   pub left_is : map left_said judged.left.now ≡ map left_words (left_of (recording_of run choice).lists)
+  pub lines_are : HaveNumbers (map lines_of (recording_of run choice).lists) judged.lines.now
 
 -- ---- Reports ----
 
@@ -92,6 +94,7 @@ pub record IsJudgedReport (known : Known) (manner : Manner) (verdict : Verdict) 
   pub causes : List CauseView
   pub are_causes : AreCauses manner.reading groups recording causes
   pub is_text : report ≡ judged_of manner.format manner.reading groups recording verdict causes judged
+  pub names : HaveLines (calls_in manner.format (calls_named manner.reading groups recording judged.findings.now)) judged.lines.now
   pub of_run : (first : List ℕ) (texts : ℕ → Option (List ℕ)) (run : Run) → AreKnown known (length run) first texts →
       run_of first texts ≡ Ok run → IsRecordingOfRun run (choice_in manner.choice) groups recording judged
   pub of_none_refused : (first : List ℕ) (texts : ℕ → Option (List ℕ)) (fault : RankFault) → AreKnown known MOST_RANKS first texts →

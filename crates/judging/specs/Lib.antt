@@ -1,4 +1,5 @@
 pub mod Closing
 pub mod JournalTexts
+pub mod NamedCalls
 pub mod Judging
 pub mod inner

@@ -4,5 +4,6 @@ pub mod Heads
 pub mod OneJournal
 pub mod Reported
 pub mod Spots
+pub mod Tables
 pub mod Turns
 pub mod Unwritten

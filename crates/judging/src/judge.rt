@@ -1,17 +1,19 @@
 //! The report of the recording that the journals of a run are.
 
-ghost use Rattle.std.specs.Prelude.{◌≡◌, ◌≤◌, ℕ, All, List, length, map, IfErr, IfOk, OnOk};
+ghost use Rattle.std.specs.Prelude.{◌≡◌, ◌≤◌, ℕ, All, List, true, length, map, IfErr, IfOk, OnOk};
 ghost use Rattle.std.specs.Io.KnownBytes.{Appends};
 ghost use Rattle.callstore.specs.Recordings.{IsClosed};
 ghost use Rattle.waitgraph.specs.Graphs.{IsGraphOf};
 ghost use Rattle.report.specs.declared.judged.TheConstants.{MOST_WORDS};
+ghost use Rattle.report.specs.declared.write.Format.TheVariants.{Json};
 ghost use Rattle.closing.specs.Numbers.{groups_of};
 ghost use Rattle.closing.specs.Recording.{recording_of};
 ghost use Rattle.closing.specs.Recordings.{choice_in};
 ghost use Rattle.closing.specs.Left.{left_of};
 ghost use Rattle.lawful.specs.Laws.{IsRead};
 ghost use Rattle.judging.specs.Judging.{IsFaultOfJudge, IsJudgedReport, LeavesAt, left_said, left_words, words_of};
-ghost use Rattle.judging.specs.inner.Reported.{IsLate, IsReported, IsReportedOf, IsRunOf, fault_of_reading};
+ghost use Rattle.judging.specs.inner.Reported.{IsLate, IsLined, IsReported, IsReportedOf, IsRunOf, fault_of_reading};
+ghost use Rattle.judging.specs.inner.Tables.{HasAllLines, HasTable, rows_of};
 ghost use Rattle.judging.specs.inner.Turns.{HasAll, IsDone, IsFresh};
 ghost use Rattle.judging.specs.inner.Unwritten.{IsOfRecording, IsUnwritten};
 ghost use Rattle.judging.specs.declared.judge.JudgeFault.TheVariants.{Memory};
@@ -102,6 +104,13 @@ fn of_reading(fault: ReadFault) -> JudgeFault
     }
 }
 
+/// Whether a report in this format has the lines of calls.
+fn has_lines(format: Format) -> bool
+    ensures { format ≡ Json → result ≡ true }
+{
+    matches!(format, Format::Json)
+}
+
 /// The recording of the journals of a run, of which no list is made yet.
 fn lists_of<J: Journals>(
     alloc: Global,
@@ -112,6 +121,7 @@ fn lists_of<J: Journals>(
     ensures run { IfOk result (λ lists. IsRunOf (J.known journals.now) lists.recording.run) }
     ensures choice { IfOk result (λ lists. lists.recording.choice ≡ choice_in manner.choice) }
     ensures fresh { IfOk result (λ lists. IsFresh lists.recording) }
+    ensures table { IfOk result (λ lists. manner.format ≡ Json → HasTable lists) }
     ensures unwritten { IfErr result IsUnwritten }
     ensures fault { IfErr result (IsFaultOfJudge (J.known journals.now)) }
 {
@@ -120,7 +130,7 @@ fn lists_of<J: Journals>(
         Err(fault) => return Err(of_reading(fault)),
     };
     let recording = Recording::of(alloc, journals, manner.choice)?;
-    let table = LineTable::new(alloc, recording.ranks(), manner.format == Format::Json)?;
+    let table = LineTable::new(alloc, recording.ranks(), has_lines(manner.format))?;
     Ok(Lists { recording, table })
 }
 
@@ -130,6 +140,8 @@ fn analyser_of(alloc: Global, lists: &mut Lists, reading: Reading) -> Result<Ana
     ensures closed { IfOk result (λ analyser. IsClosed analyser.recording) }
     ensures all { IfOk result (λ analyser. IsFresh lists.old.recording → IsRead lists.old.recording.run →
         HasAll lists.old.recording lists.new.recording analyser) }
+    ensures table { IfOk result (λ analyser. IsFresh lists.old.recording → IsRead lists.old.recording.run → HasTable lists.old →
+        HasAllLines lists.new.recording (rows_of lists.new.table)) }
     ensures fault { IfErr result IsOfRecording }
     ensures lawful { IfErr result (λ fault. IsFresh lists.old.recording → IsRead lists.old.recording.run → fault ≡ Memory) }
 {
@@ -200,9 +212,13 @@ fn lines_in(
     analyser: &Analyser,
     graph: &Graph,
     findings: &[Finding],
-    format: Format,
-) -> Result<Vec<LineAt>, AllocError> {
-    match format {
+    manner: Manner,
+) -> Result<Vec<LineAt>, AllocError>
+    requires reading { analyser.now.reading ≡ manner.reading }
+    requires graph { IsGraphOf analyser.now.reading analyser.now.groups analyser.now.recording graph.now }
+    ensures { IfOk result (λ lines. IsLined (rows_of lists.now.table) manner analyser.now findings.now lines.items) }
+{
+    match manner.format {
         Format::Json => lines_of(alloc, analyser, graph, findings, &lists.table),
         Format::Text => Ok(Vec::new(alloc)),
     }
@@ -248,7 +264,7 @@ fn report<O: Output>(
     requires reading { analyser.now.reading ≡ manner.reading }
     requires closed { IsClosed analyser.now.recording }
     requires graph { IsGraphOf analyser.now.reading analyser.now.groups analyser.now.recording graph.now }
-    ensures written { IfOk result (λ verdict. (report : List ℕ) × IsReportedOf lists.now.recording analyser.now manner verdict report × Appends (O.written out.old) (O.written out.new) report) }
+    ensures written { IfOk result (λ verdict. (report : List ℕ) × IsReportedOf lists.now.recording (rows_of lists.now.table) analyser.now manner verdict report × Appends (O.written out.old) (O.written out.new) report) }
     ensures no_write_failed { OnOk result (O.failures out.new ≡ O.failures out.old) }
     ensures output { IfErr result (LeavesAt O.written O.failures out.old out.new) }
     ensures fault { IfErr result IsLate }
@@ -256,8 +272,7 @@ fn report<O: Output>(
     let recording = &lists.recording;
     let findings = reported_findings(alloc, recording, manner.choice, graph.findings())?;
     let left = left_of(alloc, recording)?;
-    let format = manner.format;
-    let lines = lines_in(alloc, lists, analyser, graph, findings.as_slice(), format)?;
+    let lines = lines_in(alloc, lists, analyser, graph, findings.as_slice(), manner)?;
     let judged = Judged {
         findings: findings.as_slice(),
         left: left.as_slice(),

@@ -2,14 +2,13 @@
 
 ghost use Rattle.std.specs.Prelude.{◌≡◌, IfOk};
 ghost use Rattle.closing.specs.declared.choice.Calls.TheVariants.{Strict};
-ghost use Rattle.judging.specs.Judging.{AreReported, is_left_out, reported_by};
-ghost use Rattle.judging.specs.inner.Spots.{has_spot};
+ghost use Rattle.judging.specs.Judging.{frees_start, is_left_out, reported_by};
+ghost use Rattle.judging.specs.inner.Turns.{IsDone};
 
 use closing::choice::{Calls, Choice};
 use closing::recording::Recording;
 use findings::finding::Finding;
 use std::alloc::{AllocError, Global};
-use std::collections::HashSet;
 
 /// A rank and a place in its list.
 #[derive(Clone, Copy, PartialEq, Eq, PartialOrd, Ord, Hash)]
@@ -18,49 +17,12 @@ pub(crate) struct Spot {
     pub place: u32,
 }
 
-fn is_of_request(finding: &Finding) -> bool {
-    matches!(finding, Finding::Request { .. })
-}
-
-fn has_requests(findings: &[Finding]) -> bool {
-    for finding in findings {
-        if is_of_request(finding) {
-            return true;
-        }
-    }
-    false
-}
-
-/// Adds where a rank started the requests that it freed.
-fn add_freed(
-    recording: &Recording,
-    rank: u16,
-    freed: &mut HashSet<Spot>,
-) -> Result<(), AllocError> {
-    for place in recording.freed(rank)? {
-        freed.insert(Spot { rank, place })?;
-    }
-    Ok(())
-}
-
-/// Where the ranks started requests that they freed.
-fn freed_by_all(alloc: Global, recording: &Recording) -> Result<HashSet<Spot>, AllocError> {
-    let mut freed = HashSet::new(alloc);
-    for rank in 0..recording.ranks() {
-        add_freed(recording, rank, &mut freed)?;
-    }
-    Ok(freed)
-}
-
-/// Whether the finding is of such a request.
-fn is_of_freed(freed: &HashSet<Spot>, finding: &Finding) -> bool
-    ensures { result ≡ is_left_out (has_spot freed.now) finding.now }
+/// Whether the finding is of a request that its rank's program freed.
+fn is_of_freed(recording: &Recording, finding: &Finding) -> bool
+    ensures { IsDone recording.now → result ≡ is_left_out (frees_start recording.now.run recording.now.choice) finding.now }
 {
     match *finding {
-        Finding::Request { rank, place, .. } => {
-            let spot = Spot { rank, place };
-            freed.contains(&spot)
-        }
+        Finding::Request { rank, place, .. } => recording.starts_freed(rank, place),
         _ => false,
     }
 }
@@ -68,33 +30,19 @@ fn is_of_freed(freed: &HashSet<Spot>, finding: &Finding) -> bool
 /// The findings but those of freed requests.
 fn but_freed(
     alloc: Global,
-    freed: &HashSet<Spot>,
+    recording: &Recording,
     findings: &[Finding],
 ) -> Result<Vec<Finding>, AllocError>
-    ensures { IfOk result (λ reported. reported.items ≡ reported_by Strict (has_spot freed.now) findings.now) }
+    ensures { IfOk result (λ reported. IsDone recording.now →
+        reported.items ≡ reported_by Strict (frees_start recording.now.run recording.now.choice) findings.now) }
 {
     let mut reported = Vec::new(alloc);
     for finding in findings {
-        if !is_of_freed(freed, finding) {
+        if !is_of_freed(recording, finding) {
             reported.push(*finding)?;
         }
     }
     Ok(reported)
-}
-
-/// The findings where all must come in order.
-fn strict_findings(
-    alloc: Global,
-    recording: &Recording,
-    findings: &[Finding],
-) -> Result<Vec<Finding>, AllocError>
-    ensures { IfOk result (λ reported. AreReported Strict findings.now reported.items) }
-{
-    if !has_requests(findings) {
-        return Vec::from_slice(alloc, findings);
-    }
-    let freed = freed_by_all(alloc, recording)?;
-    but_freed(alloc, &freed, findings)
 }
 
 /// The findings but those of freed requests; as it went there is none.
@@ -105,10 +53,11 @@ pub(crate) fn reported_findings(
     choice: Choice,
     findings: &[Finding],
 ) -> Result<Vec<Finding>, AllocError>
-    ensures { IfOk result (λ reported. AreReported choice.calls findings.now reported.items) }
+    ensures { IfOk result (λ reported. IsDone recording.now →
+        reported.items ≡ reported_by choice.calls (frees_start recording.now.run recording.now.choice) findings.now) }
 {
     match choice.calls {
         Calls::Went => Ok(Vec::new(alloc)),
-        Calls::Strict => strict_findings(alloc, recording, findings),
+        Calls::Strict => but_freed(alloc, recording, findings),
     }
 }

@@ -1,64 +1,110 @@
 //! The calls that a report names, each with the line of its entry in the journal.
 
+ghost use Rattle.std.specs.Prelude.{◌≡◌, ◌++◌, map, IfOk, OnOk};
+ghost use Rattle.std.specs.List.{flat_map};
+ghost use Rattle.std.specs.List.Sorted.{IsStrictlySortedBy};
+ghost use Rattle.waitgraph.specs.Graphs.{IsGraphOf};
+ghost use Rattle.judging.specs.NamedCalls.{HaveLines, HaveNumbers, call_at, calls_found, calls_named, calls_needed, calls_of_member, calls_of_stuck, calls_there, starts_of};
+ghost use Rattle.judging.specs.inner.Spots.{spot_cmp, with_call, with_calls};
+ghost use Rattle.judging.specs.inner.Tables.{line_of_spot, rows_of};
+
 use crate::reported::Spot;
 use crate::turns::LineTable;
+use callstore::request::completes;
 use findings::finding::Finding;
 use moves::analyser::Analyser;
-use moves::need::Need;
-use mpicall::call::Call;
+use moves::need::{Need, stand_of};
 use report::judged::LineAt;
 use std::alloc::{AllocError, Global};
 use std::collections::BTreeSet;
 use waitgraph::graph::Graph;
 
-/// How many requests the wait at a place completes; 0 where it is none.
-fn count_completed(analyser: &Analyser, rank: u16, place: u32) -> usize {
-    let Some(record) = analyser.record(rank, place) else {
-        return 0;
-    };
-    match record.as_call() {
-        Call::Wait { .. } | Call::Waitany { .. } => 1,
-        Call::Waitall { reqs } => reqs.as_slice().len(),
-        _ => 0,
+/// Adds a call.
+fn add(spots: &mut BTreeSet<Spot>, rank: u16, place: u32) -> Result<(), AllocError>
+    ensures { OnOk result (spots.new.keys ≡ with_call spots.old.keys (call_at rank place)) }
+{
+    spots.insert(Spot { rank, place })?;
+    Ok(())
+}
+
+/// Adds the call of a rank at a place, if there is one.
+fn add_there(spots: &mut BTreeSet<Spot>, rank: u16, place: Option<u32>) -> Result<(), AllocError>
+    ensures { OnOk result (spots.new.keys ≡ with_calls spots.old.keys (calls_there rank place)) }
+{
+    match place {
+        Some(place) => add(spots, rank, place),
+        None => Ok(()),
     }
 }
 
-/// Adds the starts of the requests that the wait at a place completes.
+/// Adds the starts of the requests that the call at a place completes.
 fn add_starts(
     spots: &mut BTreeSet<Spot>,
     analyser: &Analyser,
     rank: u16,
     place: u32,
-) -> Result<(), AllocError> {
-    for index in 0..count_completed(analyser, rank, place) {
-        if let Some(place) = analyser.pairs().completed(rank, place, index) {
-            spots.insert(Spot { rank, place })?;
-        }
+) -> Result<(), AllocError>
+    ensures { OnOk result (spots.new.keys ≡ with_calls spots.old.keys (starts_of analyser.now.recording rank place)) }
+{
+    let Some(record) = analyser.record(rank, place) else {
+        return Ok(());
+    };
+    for index in 0..completes(record.as_call()).len() {
+        let start = analyser.pairs().completed(rank, place, index);
+        add_there(spots, rank, start)?;
     }
     Ok(())
+}
+
+/// Adds the call that a need is for.
+fn add_need(spots: &mut BTreeSet<Spot>, need: &Need) -> Result<(), AllocError>
+    ensures { OnOk result (spots.new.keys ≡ with_calls spots.old.keys (calls_needed need.now)) }
+{
+    match *need {
+        Need::At { rank, place } => add(spots, rank, place),
+        Need::Lacking { .. } => Ok(()),
+    }
 }
 
 /// Adds the calls that a rank waits for.
-fn add_needs(spots: &mut BTreeSet<Spot>, needs: &[Need]) -> Result<(), AllocError> {
+fn add_needs(spots: &mut BTreeSet<Spot>, needs: &[Need]) -> Result<(), AllocError>
+    ensures { OnOk result (spots.new.keys ≡ with_calls spots.old.keys (flat_map calls_needed needs.now)) }
+{
     for need in needs {
-        if let Need::At { rank, place } = *need {
-            spots.insert(Spot { rank, place })?;
-        }
+        add_need(spots, need)?;
     }
     Ok(())
 }
 
-/// Adds what a report names of the stuck ranks.
+/// Adds what a report names of a stuck rank.
 fn add_stuck(
     spots: &mut BTreeSet<Spot>,
     analyser: &Analyser,
     graph: &Graph,
-) -> Result<(), AllocError> {
-    for rank in graph.stuck() {
-        let place = analyser.stand(*rank).unwrap_or(0);
-        spots.insert(Spot { rank: *rank, place })?;
-        add_needs(spots, graph.unmet(*rank))?;
-        add_starts(spots, analyser, *rank, place)?;
+    rank: u16,
+) -> Result<(), AllocError>
+    requires { IsGraphOf analyser.now.reading analyser.now.groups analyser.now.recording graph.now }
+    ensures { OnOk result (spots.new.keys ≡ with_calls spots.old.keys (calls_of_stuck analyser.now.reading analyser.now.groups analyser.now.recording rank)) }
+{
+    analyser.stands_are_the_end();
+    let place = stand_of(analyser.stands(), rank);
+    add(spots, rank, place)?;
+    add_needs(spots, graph.unmet(rank))?;
+    add_starts(spots, analyser, rank, place)
+}
+
+/// Adds what a report names of stuck ranks.
+fn add_all_stuck(
+    spots: &mut BTreeSet<Spot>,
+    analyser: &Analyser,
+    graph: &Graph,
+    ranks: &[u16],
+) -> Result<(), AllocError>
+    requires { IsGraphOf analyser.now.reading analyser.now.groups analyser.now.recording graph.now }
+    ensures { OnOk result (spots.new.keys ≡ with_calls spots.old.keys (flat_map (calls_of_stuck analyser.now.reading analyser.now.groups analyser.now.recording) ranks.now)) }
+{
+    for rank in ranks {
+        add_stuck(spots, analyser, graph, *rank)?;
     }
     Ok(())
 }
@@ -70,20 +116,38 @@ fn add_member(
     comm: u16,
     wave: u32,
     member: u16,
-) -> Result<(), AllocError> {
-    let place = analyser.pairs().member(comm, wave, member);
-    if let (Some(rank), Some(place)) = (analyser.head().world_rank(comm, member), place) {
-        spots.insert(Spot { rank, place })?;
+) -> Result<(), AllocError>
+    ensures { OnOk result (spots.new.keys ≡ with_calls spots.old.keys (calls_of_member analyser.now.groups analyser.now.recording comm wave member)) }
+{
+    match analyser.head().world_rank(comm, member) {
+        Some(rank) => add_there(spots, rank, analyser.pairs().member(comm, wave, member)),
+        None => Ok(()),
     }
-    Ok(())
 }
 
-/// Adds the calls that a finding names.
+/// Adds the calls of two members in a wave.
+fn add_both(
+    spots: &mut BTreeSet<Spot>,
+    analyser: &Analyser,
+    comm: u16,
+    wave: u32,
+    member: u16,
+) -> Result<(), AllocError>
+    ensures { OnOk result (spots.new.keys ≡ with_calls spots.old.keys
+        (calls_of_member analyser.now.groups analyser.now.recording comm wave 0 ++ calls_of_member analyser.now.groups analyser.now.recording comm wave member)) }
+{
+    add_member(spots, analyser, comm, wave, 0)?;
+    add_member(spots, analyser, comm, wave, member)
+}
+
+/// Adds the calls of a finding.
 fn add_finding(
     spots: &mut BTreeSet<Spot>,
     analyser: &Analyser,
     finding: &Finding,
-) -> Result<(), AllocError> {
+) -> Result<(), AllocError>
+    ensures { OnOk result (spots.new.keys ≡ with_calls spots.old.keys (calls_found analyser.now.groups analyser.now.recording finding.now)) }
+{
     match *finding {
         Finding::Kind {
             comm,
@@ -96,28 +160,44 @@ fn add_finding(
             wave,
             member,
             ..
-        } => {
-            add_member(spots, analyser, comm, wave, 0)?;
-            add_member(spots, analyser, comm, wave, member)
-        }
+        } => add_both(spots, analyser, comm, wave, member),
         Finding::Unreceived { rank, place }
         | Finding::Request { rank, place, .. }
-        | Finding::Group { rank, place } => {
-            spots.insert(Spot { rank, place })?;
-            Ok(())
-        }
+        | Finding::Group { rank, place } => add(spots, rank, place),
     }
 }
 
+/// Adds the calls of the findings.
 fn add_findings(
     spots: &mut BTreeSet<Spot>,
     analyser: &Analyser,
     findings: &[Finding],
-) -> Result<(), AllocError> {
+) -> Result<(), AllocError>
+    ensures { OnOk result (spots.new.keys ≡ with_calls spots.old.keys (flat_map (calls_found analyser.now.groups analyser.now.recording) findings.now)) }
+{
     for finding in findings {
         add_finding(spots, analyser, finding)?;
     }
     Ok(())
+}
+
+/// The lines of a set of calls.
+fn lines_at(
+    alloc: Global,
+    spots: &BTreeSet<Spot>,
+    table: &LineTable,
+) -> Result<Vec<LineAt>, AllocError>
+    ensures lines { IfOk result (λ lines. lines.items ≡ map (line_of_spot (rows_of table.now)) spots.now.keys) }
+    ensures sorted { IfOk result (λ lines. IsStrictlySortedBy spot_cmp spots.now.keys) }
+{
+    spots
+        .iter()
+        .map(|spot| LineAt {
+            rank: spot.rank,
+            place: spot.place,
+            line: table.line(spot.rank, spot.place),
+        })
+        .collect(alloc)
 }
 
 /// The calls that a report with these findings names, by rank and place, each with its line.
@@ -127,17 +207,13 @@ pub(crate) fn lines_of(
     graph: &Graph,
     findings: &[Finding],
     table: &LineTable,
-) -> Result<Vec<LineAt>, AllocError> {
+) -> Result<Vec<LineAt>, AllocError>
+    requires { IsGraphOf analyser.now.reading analyser.now.groups analyser.now.recording graph.now }
+    ensures names { IfOk result (λ lines. HaveLines (calls_named analyser.now.reading analyser.now.groups analyser.now.recording findings.now) lines.items) }
+    ensures numbers { IfOk result (λ lines. HaveNumbers (rows_of table.now) lines.items) }
+{
     let mut spots = BTreeSet::new(alloc);
-    add_stuck(&mut spots, analyser, graph)?;
+    add_all_stuck(&mut spots, analyser, graph, graph.stuck())?;
     add_findings(&mut spots, analyser, findings)?;
-    let mut lines = Vec::new(alloc);
-    for spot in &spots {
-        lines.push(LineAt {
-            rank: spot.rank,
-            place: spot.place,
-            line: table.line(spot.rank, spot.place),
-        })?;
-    }
-    Ok(lines)
+    lines_at(alloc, &spots, table)
 }

@@ -1,10 +1,12 @@
 //! The entries of all ranks, taken by turns, and their records handed to what judges them.
 
-ghost use Rattle.std.specs.Prelude.{◌≡◌, ◌==◌, ◌<◌, ◌^◌, ◌&&◌, ℕ, true, None, length, IfErr, IfOk, OnOk};
+ghost use Rattle.std.specs.Prelude.{◌≡◌, ◌==◌, ◌<◌, ◌^◌, ◌&&◌, ◌++◌, ℕ, [], true, None, length, replicate, slice_set, IfErr, IfOk, OnOk};
 ghost use Rattle.callstore.specs.Recordings.{appended, calls_of};
 ghost use Rattle.pairing.specs.Faults.{fault_of};
 ghost use Rattle.closing.specs.Recordings.{count_at};
 ghost use Rattle.judging.specs.declared.judge.JudgeFault.TheVariants.{Memory};
+ghost use Rattle.judging.specs.NamedCalls.{line_in};
+ghost use Rattle.judging.specs.inner.Tables.{HasAllLines, HasTable, row_at, rows_of};
 ghost use Rattle.judging.specs.inner.Turns.{HandsOn, HasAll, HasTurn, HaveNoFault, HaveTurns, IsWithIt, appended_all};
 ghost use Rattle.judging.specs.inner.Unwritten.{IsOfRecording, KeepsRanks};
 
@@ -25,8 +27,21 @@ pub(crate) struct LineTable {
     lines: Vec<Vec<u32>>,
 }
 
+/// Adds a number so many times.
+fn push_times(lines: &mut Vec<u32>, line: u32, count: usize) -> Result<(), AllocError>
+    ensures { OnOk result (lines.new.items ≡ lines.old.items ++ replicate count line) }
+{
+    for _ in 0..count {
+        lines.push(line)?;
+    }
+    Ok(())
+}
+
 impl LineTable {
-    pub(crate) fn new(alloc: Global, ranks: u16, is_wanted: bool) -> Result<LineTable, AllocError> {
+    pub(crate) fn new(alloc: Global, ranks: u16, is_wanted: bool) -> Result<LineTable, AllocError>
+        ensures wanted { IfOk result (λ table. table.is_wanted ≡ is_wanted) }
+        ensures none { IfOk result (λ table. rows_of table ≡ replicate ranks []) }
+    {
         let mut lines = Vec::new(alloc);
         for _ in 0..ranks {
             lines.push(Vec::new(alloc))?;
@@ -35,20 +50,24 @@ impl LineTable {
     }
 
     /// The next records of a rank, so many, are of one entry.
-    fn note(&mut self, rank: u16, line: u32, count: usize) -> Result<(), AllocError> {
+    fn note(&mut self, rank: u16, line: u32, count: usize) -> Result<(), AllocError>
+        ensures wanted { self.new.is_wanted ≡ self.old.is_wanted }
+        ensures noted { OnOk result (self.old.is_wanted ≡ true →
+            rows_of self.new ≡ slice_set (rows_of self.old) rank (row_at (rows_of self.old) rank ++ replicate count line)) }
+    {
         if !self.is_wanted {
             return Ok(());
         }
         if let Some(lines) = self.lines.get_mut(usize::from(rank)) {
-            for _ in 0..count {
-                lines.push(line)?;
-            }
+            push_times(lines, line, count)?;
         }
         Ok(())
     }
 
-    /// The line of the record at a place.
-    pub(crate) fn line(&self, rank: u16, place: u32) -> u32 {
+    /// The line of the record at a place; 0 where there is none.
+    pub(crate) fn line(&self, rank: u16, place: u32) -> u32
+        ensures { result ≡ line_in (rows_of self.now) rank place }
+    {
         let Some(lines) = self.lines.get(usize::from(rank)) else {
             return 0;
         };
@@ -125,6 +144,7 @@ impl Lists {
         ensures kept { KeepsRanks analyser.old analyser.new }
         ensures fault { IfErr result IsOfRecording }
         ensures with_it { OnOk result (IsWithIt self.old.recording analyser.old → IsWithIt self.new.recording analyser.new) }
+        ensures table { OnOk result (IsWithIt self.old.recording analyser.old → HasTable self.old → HasTable self.new) }
         ensures lawful { IfErr result (λ fault. IsWithIt self.old.recording analyser.old → fault ≡ Memory) }
         ensures handed { OnOk result (IsWithIt self.old.recording analyser.old → HandsOn rank self.old.recording self.new.recording) }
     {
@@ -143,6 +163,7 @@ impl Lists {
         ensures kept { KeepsRanks analyser.old analyser.new }
         ensures fault { IfErr result IsOfRecording }
         ensures with_it { OnOk result (IsWithIt self.old.recording analyser.old → IsWithIt self.new.recording analyser.new) }
+        ensures table { OnOk result (IsWithIt self.old.recording analyser.old → HasTable self.old → HasTable self.new) }
         ensures lawful { IfErr result (λ fault. IsWithIt self.old.recording analyser.old → fault ≡ Memory) }
         ensures turn { OnOk result (IsWithIt self.old.recording analyser.old → HasTurn rank self.old.recording self.new.recording) }
     {
@@ -164,6 +185,7 @@ impl Lists {
         ensures kept { KeepsRanks analyser.old analyser.new }
         ensures fault { IfErr result IsOfRecording }
         ensures with_it { OnOk result (IsWithIt self.old.recording analyser.old → IsWithIt self.new.recording analyser.new) }
+        ensures table { OnOk result (IsWithIt self.old.recording analyser.old → HasTable self.old → HasTable self.new) }
         ensures lawful { IfErr result (λ fault. IsWithIt self.old.recording analyser.old → fault ≡ Memory) }
         ensures turn { OnOk result (IsWithIt self.old.recording analyser.old → HasTurn rank self.old.recording self.new.recording) }
         ensures over { IfOk result (λ is_over. is_over ≡ (count_at self.new.recording.left rank == 0)) }
@@ -182,6 +204,7 @@ impl Lists {
         ensures kept { KeepsRanks analyser.old analyser.new }
         ensures fault { IfErr result IsOfRecording }
         ensures with_it { OnOk result (IsWithIt self.old.recording analyser.old → IsWithIt self.new.recording analyser.new) }
+        ensures table { OnOk result (IsWithIt self.old.recording analyser.old → HasTable self.old → HasTable self.new) }
         ensures lawful { IfErr result (λ fault. IsWithIt self.old.recording analyser.old → fault ≡ Memory) }
         ensures turns { OnOk result (IsWithIt self.old.recording analyser.old →
             HaveTurns (length analyser.old.recording) self.old.recording self.new.recording) }
@@ -204,6 +227,8 @@ impl Lists {
         ensures lawful { IfErr result (λ fault. IsWithIt self.old.recording analyser.old → fault ≡ Memory) }
         ensures all { OnOk result (IsWithIt self.old.recording analyser.old →
             HasAll self.old.recording self.new.recording analyser.new) }
+        ensures table { OnOk result (IsWithIt self.old.recording analyser.old → HasTable self.old →
+            HasAllLines self.new.recording (rows_of self.new.table)) }
     {
         for _round in 0..u32::MAX {
             if self.take_a_round(analyser)? {

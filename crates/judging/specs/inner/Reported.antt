@@ -1,8 +1,9 @@
 -- What is reported of the recording that an analyser has.
-use Rattle.std.specs.Prelude.{◌≡◌, ℕ, Option, Ok, Err, List, length, map, ⊤}
+use Rattle.std.specs.Prelude.{◌≡◌, ℕ, Option, Ok, Err, List, [], length, map, ⊤}
 use Rattle.mpigroup.specs.Groups.{Groups, ranks_of}
 use Rattle.callstore.specs.Recordings.{Lists, IsClosed}
 use Rattle.findings.specs.Findings.{findings_of}
+use Rattle.findings.specs.declared.finding.Finding.{Finding}
 use Rattle.moves.specs.Analysed.{Analysed}
 use Rattle.moves.specs.declared.reading.Reading.{Reading}
 use Rattle.waitgraph.specs.Causes.{CauseView, AreCauses}
@@ -10,7 +11,9 @@ use Rattle.waitgraph.specs.Verdicts.{IsVerdictOf}
 use Rattle.waitgraph.specs.declared.verdict.Verdict.{Verdict}
 use Rattle.report.specs.Judged.{judged_of}
 use Rattle.report.specs.declared.judged.Judged.{Judged}
+use Rattle.report.specs.declared.judged.LineAt.{LineAt}
 use Rattle.report.specs.declared.write.Format.{Format}
+use Rattle.report.specs.declared.write.Format.TheVariants.{Text, Json}
 use Rattle.journals.specs.declared.limits.TheConstants.{MOST_RANKS}
 use Rattle.closing.specs.Entries.{Run}
 use Rattle.closing.specs.Journals.{RankFault, run_of}
@@ -18,12 +21,13 @@ use Rattle.closing.specs.Recording.{recording_of}
 use Rattle.closing.specs.Recordings.{RecordingView}
 use Rattle.closing.specs.Left.{left_of}
 use Rattle.judging.specs.JournalTexts.{Known, AreKnown}
-use Rattle.judging.specs.Judging.{AreReported, left_said, left_words}
+use Rattle.judging.specs.Judging.{frees_start, left_said, left_words, reported_by}
 use Rattle.judging.specs.declared.judge.JudgeFault.{JudgeFault}
 use Rattle.judging.specs.declared.judge.JudgeFault.TheVariants as fault
 use Rattle.judging.specs.declared.judge.Manner.{Manner}
 use Rattle.judging.specs.declared.read.ReadFault.{ReadFault}
 use Rattle.judging.specs.declared.read.ReadFault.TheVariants as read
+use Rattle.judging.specs.NamedCalls.{HaveLines, HaveNumbers, calls_in, calls_named}
 use Rattle.judging.specs.inner.Turns.{IsDone}
 
 abbrev pub fault_of_reading : ReadFault → JudgeFault
@@ -45,12 +49,19 @@ pub record IsReported (reading : Reading) (format : Format) (groups : Groups) (r
   pub are_causes : AreCauses reading groups recording causes
   pub is_text : report ≡ judged_of format reading groups recording verdict causes judged
 
+-- the calls that are named have their lines, by the rows of the table
+pub record IsLined (rows : List (List ℕ)) (manner : Manner) (analysed : Analysed) (findings : List Finding) (lines : List LineAt) : Type 0 where
+  pub names : HaveLines (calls_in manner.format (calls_named manner.reading analysed.groups analysed.recording findings)) lines
+  pub numbers : manner.format ≡ Json → HaveNumbers rows lines
+  pub none : manner.format ≡ Text → lines ≡ []
+
 -- and what is said in addition is of the lists
-pub record IsReportedOf (it : RecordingView) (analysed : Analysed) (manner : Manner) (verdict : Verdict) (report : List ℕ) : Type 0 where
+pub record IsReportedOf (it : RecordingView) (rows : List (List ℕ)) (analysed : Analysed) (manner : Manner) (verdict : Verdict) (report : List ℕ) : Type 0 where
   pub judged : Judged
   pub reported : IsReported manner.reading manner.format analysed.groups analysed.recording judged verdict report
-  pub findings : AreReported manner.choice.calls (findings_of analysed.groups analysed.recording) judged.findings.now
+  pub findings : IsDone it → judged.findings.now ≡ reported_by manner.choice.calls (frees_start it.run it.choice) (findings_of analysed.groups analysed.recording)
   pub left : IsDone it → map left_said judged.left.now ≡ map left_words (left_of (recording_of it.run it.choice).lists)
+  pub lines : IsLined rows manner analysed judged.findings.now judged.lines.now
 
 -- where the files are known to hold a run, it is this; and they are known to hold no other fault
 pub record IsRunOf (known : Known) (own : Run) : Type 0 where

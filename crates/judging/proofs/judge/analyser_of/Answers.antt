@@ -27,3 +27,8 @@ returns-clause-all c = λ fresh read.
     let it = c.args.lists.now.recording in
     c.in_ok-take_all.ensures.all
     (begins_with_it it c.in_ok-analyser.analyser c.in_ok-head.head fresh read c.in_ok-head.ensures.head c.in_ok-analyser.ensures.groups c.in_ok-analyser.ensures.recording)
+
+pub returns-clause-table : goal.returns-clause-table
+returns-clause-table c = λ fresh read.
+    c.in_ok-take_all.ensures.table
+    (begins_with_it c.args.lists.now.recording c.in_ok-analyser.analyser c.in_ok-head.head fresh read c.in_ok-head.ensures.head c.in_ok-analyser.ensures.groups c.in_ok-analyser.ensures.recording)

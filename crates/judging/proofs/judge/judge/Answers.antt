@@ -3,6 +3,7 @@ use Rattle.std.proofs.Common.{ℕ, List}
 use Rattle.std.specs.Io.KnownBytes.{Appends}
 use Rattle.judging.specs.Judging.{IsFaultOfJudge, IsJudgedReport}
 use Rattle.judging.specs.inner.Reported.{IsLate, IsReportedOf}
+use Rattle.judging.specs.inner.Tables.{rows_of}
 use Rattle.judging.proofs.JudgeLemmas.{err_as, if_ok, if_err, judged_report, judge_fault, late_fault}
 use Rattle.judging.proofs.judge.judge.Goals as goal
 
@@ -19,13 +20,15 @@ returns-clause-written g c =
     let written = g.O.Output.written in
     let lists = c.in_ok-lists.ensures in
     let it = c.analyser_of.new.lists.recording in
+    let rows = rows_of c.analyser_of.new.lists.table in
     let analysed = c.in_ok-analyser.analyser in
     if_ok c.report.result
-    (λ verdict. (report : List ℕ) × IsReportedOf it analysed c.args.manner verdict report × Appends (written c.args.out.now) (written c.report.new.out) report)
+    (λ verdict. (report : List ℕ) × IsReportedOf it rows analysed c.args.manner verdict report × Appends (written c.args.out.now) (written c.report.new.out) report)
     (λ verdict. (report : List ℕ) × IsJudgedReport known c.args.manner verdict report × Appends (written c.args.out.now) (written c.report.new.out) report)
     (λ verdict of. (
       of.0,
-      judged_report known c.args.manner c.in_ok-lists.lists.recording lists.run lists.fresh it analysed lists.choice c.in_ok-analyser.ensures.all verdict of.0 of.1,
+      judged_report known c.args.manner c.in_ok-lists.lists.recording lists.run lists.fresh it analysed lists.choice c.in_ok-analyser.ensures.all
+          rows (λ fresh read json. c.in_ok-analyser.ensures.table fresh read (lists.table json)) verdict of.0 of.1,
       of.2,
     ))
     c.report.ensures.written

@@ -2,7 +2,10 @@
 use Rattle.std.proofs.Common.{◌∙◌, List, map, ap, sym, subst}
 use Rattle.findings.specs.declared.finding.Finding.{Finding}
 use Rattle.report.specs.declared.judged.LeftAt.{LeftAt}
-use Rattle.judging.specs.Judging.{AreReported, left_said}
+use Rattle.report.specs.declared.judged.LineAt.{LineAt}
+use Rattle.judging.specs.Judging.{frees_start, left_said, reported_by}
+use Rattle.judging.specs.inner.Reported.{IsLined}
+use Rattle.judging.specs.inner.Tables.{rows_of}
 use Rattle.judging.proofs.JudgeLemmas.{if_ok}
 use Rattle.judging.proofs.judge.report.Goals as goal
 
@@ -11,16 +14,20 @@ returns-clause-written g c =
     let written = g.O.Output.written in
     let at = c.args.analyser.now in
     let calls = c.args.manner.choice.calls in
+    let it = c.args.lists.now.recording in
     if_ok c.write_report.result _ _
     (λ verdict of. (
       of.0,
       record {
         judged = _;
         reported = of.1;
-        findings =
-            subst (λ (fs : List Finding). AreReported calls fs c.as_slice-2.result.now) (c.findings.ensures ∙ c.requires.graph.findings)
-            (subst (λ (fs : List Finding). AreReported calls c.findings.result.now fs) (sym c.as_slice-2.ensures.value) c.in_ok-findings.ensures);
+        findings = λ done.
+            c.as_slice-2.ensures.value ∙ c.in_ok-findings.ensures done
+            ∙ ap (λ (fs : List Finding). reported_by calls (frees_start it.run it.choice) fs) (c.findings.ensures ∙ c.requires.graph.findings);
         left = λ done. ap (λ (ls : List LeftAt). map left_said ls) c.as_slice-3.ensures.value ∙ c.in_ok-left.ensures.left done;
+        lines =
+            subst (λ (fs : List Finding). IsLined (rows_of c.args.lists.now.table) c.args.manner at fs c.as_slice-4.result.now) (c.as_slice.ensures.value ∙ sym c.as_slice-2.ensures.value)
+            (subst (λ (ls : List LineAt). IsLined (rows_of c.args.lists.now.table) c.args.manner at c.as_slice.result.now ls) (sym c.as_slice-4.ensures.value) c.in_ok-lines.ensures);
       },
       of.2,
     ))

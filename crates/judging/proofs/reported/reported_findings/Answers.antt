@@ -1,10 +1,12 @@
--- Those that are told as it went, or strictly.
-use Rattle.std.proofs.Common.{sym, subst}
+-- None as it went; strictly those that aren't of freed requests.
+use Rattle.std.proofs.Common.{◌≡◌, sym, subst}
 use Rattle.std.specs.Prelude.{IfOk}
 use Rattle.closing.specs.declared.choice.Calls.{Calls}
-use Rattle.judging.specs.Judging.{AreReported}
+use Rattle.judging.specs.Judging.{frees_start, reported_by}
+use Rattle.judging.specs.inner.Turns.{IsDone}
 use Rattle.judging.proofs.reported.reported_findings.Goals as goal
 
 pub returns-in-Strict : goal.returns-in-Strict
 returns-in-Strict c =
-    subst (λ (calls : Calls). IfOk c.strict_findings.result (λ reported. AreReported calls c.args.findings.now reported.items)) (sym c.in-Strict.is) c.strict_findings.ensures
+    let it = c.args.recording.now in
+    subst (λ (calls : Calls). IfOk c.but_freed.result (λ reported. IsDone it → reported.items ≡ reported_by calls (frees_start it.run it.choice) c.args.findings.now)) (sym c.in-Strict.is) c.but_freed.ensures

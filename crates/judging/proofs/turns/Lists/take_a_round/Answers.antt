@@ -8,6 +8,7 @@ pub loop-rank-init : goal.loop-rank-init
 loop-rank-init c = record {
   kept = keeps_none c.args.analyser.now;
   with_it = λ with_it. with_it;
+  table = λ with_it has. has;
   turns = λ with_it. turns_none c.args.self.now.recording;
   over = λ with_it so rank below. absurd (omega (arith, below));
 }
@@ -23,6 +24,7 @@ loop-rank-preserved c =
     record {
       kept = keeps_more c.args.analyser.now c.loop-rank.analyser c.take_next.new.analyser so_far.kept c.take_next.ensures.kept;
       with_it = λ with_it. taken.with_it (so_far.with_it with_it);
+      table = λ with_it has. taken.table (so_far.with_it with_it) (so_far.table with_it has);
       turns = λ with_it. turns_more rank old mid new (so_far.turns with_it) (taken.turn (so_far.with_it with_it)) taken.few;
       over = λ with_it so. over_more rank mid new c.loop-rank.are_over c.in_ok-is_over.is_over (taken.turn (so_far.with_it with_it)) taken.over (so_far.over with_it) (sym c.are_both-are_over.ensures ∙ so);
     }
