@@ -58,16 +58,19 @@ def lines(text):
     return "".join(line + "\n" for line in text.split(" / ")) if text else ""
 
 
-def closings(name):
-    """The cases of a file in journals/: a title, the calls of each rank, and the head and the traces that are
-    wanted. There, lines are folded, and ` / ' is between calls."""
-    text = (Path(__file__).parent / "journals" / name).read_text(encoding="ascii")
-    for case in re.sub(r"\n +", " ", text).strip().split("\n\n"):
-        title, *fields = case.split("\n")
-        calls = [one.partition(":")[2].strip() if ":" in one else None for one in fields if "journal" in one]
-        groups = [lines("comm " + one.removeprefix("comm: ")) for one in fields if one.startswith("comm")]
-        traces = [lines(one.partition(": ")[2]) for one in fields if one.startswith("trace")]
-        yield title.removeprefix("# "), calls, ["".join([f"ranks {len(calls)}\n", *groups]), *traces]
+def closings():
+    """The rows of crates/cli_rows that have what `close' makes: the name, the words, and the text of each file."""
+    rows = (TOP / "crates/cli_rows/stdin").read_text(encoding="utf-8").split("\n\n")
+    for row in (row.split("\n") for row in rows if "\nmade " in row):
+        lines = [line.partition(" ")[::2] for line in row]
+        texts = {}
+        for kind, rest in lines:
+            if kind in ("file", "made"):
+                texts[path := rest] = ""
+            elif kind in ("|", "."):
+                texts[path] += rest + ("\n" if kind == "|" else "")
+        said = dict(lines)
+        yield said["row"], said["words"].split(" "), texts
 
 
 def journal(rank, ranks, calls, state="i", library="a library"):

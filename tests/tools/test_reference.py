@@ -1,4 +1,4 @@
-"""What bench/journals.py makes of journals: the cases of journals/, and others."""
+"""What bench/journals.py makes of journals: the rows of crates/cli_rows of what `close' makes, and others."""
 
 import contextlib
 import io
@@ -27,14 +27,6 @@ class Reference(Folders):
                 status = JOURNALS.main()
         return status, *(output.buffer.getvalue().decode() for output in outputs)
 
-    def close(self, *ranks, words=()):
-        self.doCleanups()
-        self.setUp()
-        self.run_of(*ranks)
-        out = self.folder / "out"
-        self.assertEqual(self.run_program("close", *words, self.folder / "journal", out), (0, "", ""))
-        return [(out / name).read_text() for name in ("head", *(f"r{rank}" for rank in range(len(ranks))))]
-
     def judged(self, report, *words):
         """What it says of a run, of which the checker has this report."""
         self.write("said", json.dumps(report) + "\n")
@@ -44,19 +36,21 @@ class Reference(Folders):
         with mock.patch.dict(os.environ, MPIWAIT=str(self.folder / "checker")):
             return self.run_program("judge", *words, self.folder / "journal")
 
-    def test_the_same_as_close(self):
-        self.compare("closed")
-
-    def test_as_it_went(self):
-        self.compare("as-it-went", "--calls", "went")
-
-    def test_tests_that_wait_at_the_end(self):
-        self.compare("tests-at-the-end", "--tests", "pass")
-
-    def compare(self, name, *words):
-        for title, ranks, wanted in closings(name):
+    def test_the_rows_of_close(self):
+        count = 0
+        for title, (_, *words, _, _), texts in closings():
             with self.subTest(title):
-                self.assertEqual(self.close(*ranks, words=words), wanted)
+                self.again()
+                (self.folder / "J").mkdir()
+                journals = {path: text for path, text in texts.items() if path.startswith("J/")}
+                for path, text in journals.items():
+                    self.write(path, text)
+                out = self.folder / "out"
+                self.assertEqual(self.run_program("close", *words, self.folder / "J", out), (0, "", ""))
+                made = {f"out/{path.name}": path.read_text() for path in out.iterdir()}
+                self.assertEqual(made, {path: text for path, text in texts.items() if path not in journals})
+                count += 1
+        self.assertGreater(count, 100)
 
     def test_why_a_list_ends(self):
         report = {"causes": [], "findings": [], "ranks": [], "verdict": "unfinished"}

@@ -30,6 +30,7 @@
 //! begins                 these texts are only how those on the outputs begin
 //! has TEXT               TEXT is somewhere on standard output, of which no whole text is given
 //! has-end TEXT           the same, at the end of a line
+//! made PATH              a file that must be made, with the text that follows; where none must be, none can be
 //! end                    ends the row
 //! ```
 //!
@@ -76,8 +77,8 @@ fn run_row<R: AllocGlobal + Print + Eprint + Threads + Wait + Sync>(
     let out = text_of(rt.alloc(), answer.out.as_slice())?;
     let err = text_of(rt.alloc(), answer.err.as_slice())?;
     println!(rt;
-        "row {}: {:?}\nout\n{out}err\n{err}end",
-        row.name, answer.code
+        "row {}: {:?}, files as wanted: {}\nout\n{out}err\n{err}end",
+        row.name, answer.code, answer.is_made
     )
 }
 

@@ -3,7 +3,7 @@
 use crate::arguments::Arguments;
 use crate::named::fault_of;
 use crate::row::{Asked, Row, Wanted};
-use crate::row_files::{Meeting, RowFiles};
+use crate::row_files::{Made, Meeting, RowFiles};
 use cli::argv::{WordsFault, run};
 use cli::capacity::Capacity;
 use cli::command_line::{CommandLine, parse};
@@ -22,6 +22,8 @@ pub struct Answer {
     pub code: ExitCode,
     pub out: Vec<u8>,
     pub err: Vec<u8>,
+    /// Whether the files that were made are the wanted ones.
+    pub is_made: bool,
 }
 
 impl Answer {
@@ -35,7 +37,12 @@ impl Answer {
             (none, text)
         };
         let code = ExitCode::from(status);
-        Ok(Answer { code, out, err })
+        Ok(Answer {
+            code,
+            out,
+            err,
+            is_made: true,
+        })
     }
 
     /// Whether this is what the row wants.
@@ -44,6 +51,7 @@ impl Answer {
             return false;
         };
         self.code == ExitCode::from(status)
+            && self.is_made
             && is_text(wanted, &wanted.err, &self.err)
             && is_output(wanted, &self.out)
     }
@@ -89,16 +97,18 @@ fn answer_of_program<R: AllocGlobal + Eprint + Threads + Wait + Sync>(
     let mut out = FailsAt::new(out, devices.failing_output);
     let mut err = FailsAt::new(MemoryOutput::new(rt.alloc()), devices.failing_error);
     let given = (Arguments(row.words.as_slice()), rt.alloc());
-    let meeting = Meeting::new();
+    let (meeting, made) = (Meeting::new(), Made::new());
     let shelf = RowFiles {
         row,
         meeting: &meeting,
+        made: &made,
     };
     let ended = run(&given, &shelf, rt, &mut out, &mut err);
     Ok(Answer {
         code: ended.report(rt),
         out: out.device().bytes().to_vec(rt.alloc())?,
         err: err.device().bytes().to_vec(rt.alloc())?,
+        is_made: made.is_all(row.wanted.made.as_slice()),
     })
 }
 

@@ -18,6 +18,7 @@ pub enum Step {
 enum Place {
     Nowhere,
     LastFile,
+    LastMade,
     Output,
     Error,
 }
@@ -170,11 +171,27 @@ impl RowParser {
         Ok(())
     }
 
+    /// A file that is to be made, of which no text was read yet.
+    fn add_made(&mut self, alloc: Global, path: &str) -> Result<(), LineFault> {
+        if path.is_empty() {
+            return Err(LineFault::NoText);
+        }
+        let path = path.to_string(alloc)?;
+        let text = String::new(alloc);
+        self.row.wanted.made.push(StoredFile { path, text })?;
+        self.place = Place::LastMade;
+        Ok(())
+    }
+
     /// Adds to the text that is being read.
     fn add(&mut self, text: &str, end: &str) -> Result<(), LineFault> {
         match self.place {
             Place::Nowhere => Err(LineFault::NoPlace),
             Place::LastFile => match self.row.files.last_mut() {
+                Some(file) => push(&mut file.text, text, end),
+                None => Err(LineFault::NoPlace),
+            },
+            Place::LastMade => match self.row.wanted.made.last_mut() {
                 Some(file) => push(&mut file.text, text, end),
                 None => Err(LineFault::NoPlace),
             },
@@ -249,6 +266,7 @@ impl RowParser {
     fn read_wanted(&mut self, alloc: Global, kind: &str, rest: &str) -> Result<(), LineFault> {
         match kind {
             "status" => self.set_status(rest)?,
+            "made" => self.add_made(alloc, rest)?,
             "out" => self.place = Place::Output,
             "err" => self.place = Place::Error,
             "begins" => self.row.wanted.begins = true,

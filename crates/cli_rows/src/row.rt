@@ -15,7 +15,7 @@ pub enum Asked {
     Fault,
 }
 
-/// A file that the program may open.
+/// A file that the program may open, or that it is to make.
 #[derive(Drop)]
 pub struct StoredFile {
     pub path: String,
@@ -69,6 +69,8 @@ pub struct Wanted {
     pub begins: bool,
     /// What is somewhere on standard output; where there is any, `out` isn't asked for.
     pub parts: Vec<String>,
+    /// The files that are made; where there are none, no folder can be.
+    pub made: Vec<StoredFile>,
 }
 
 impl Wanted {
@@ -80,6 +82,7 @@ impl Wanted {
             err: String::new(alloc),
             begins: false,
             parts: Vec::new(alloc),
+            made: Vec::new(alloc),
         }
     }
 }

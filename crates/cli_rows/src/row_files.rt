@@ -2,12 +2,11 @@
 
 ghost use Rattle.std.specs.Prelude.{◌≡◌, None};
 
-use crate::row::Row;
+use crate::row::{Row, StoredFile};
 use cli::opener::{Maker, Opener};
 use mpicall::counted::Counted;
 use mpicall::fails_at::FailsAt;
-use mpicall::memory::MemoryOutput;
-use std::sync::atomic::{AtomicBool, Ordering};
+use std::sync::atomic::{AtomicBool, AtomicU64, Ordering};
 use std::{io, thread};
 
 /// How often a first read looks whether the other one was asked for as well.
@@ -75,11 +74,72 @@ impl<'a> io::Read for Pieces<'a> {
     }
 }
 
-/// The files of a row, and the meeting of two of them.
+/// What was made: how many files, how many bytes of them are as wanted, and whether any is another one.
+#[derive(Drop)]
+pub struct Made {
+    files: AtomicU64,
+    bytes: AtomicU64,
+    has_other: AtomicBool,
+}
+
+impl Made {
+    /// Nothing was.
+    pub fn new() -> Made {
+        Made {
+            files: AtomicU64::new(0),
+            bytes: AtomicU64::new(0),
+            has_other: AtomicBool::new(false),
+        }
+    }
+
+    /// Whether these files were made, and nothing else.
+    pub fn is_all(&self, files: &[StoredFile]) -> bool {
+        let mut bytes = 0u64;
+        for file in files {
+            bytes = bytes.saturating_add(file.text.len() as u64);
+        }
+        self.files.load(Ordering::SeqCst) == files.len() as u64
+            && self.bytes.load(Ordering::SeqCst) == bytes
+            && !self.has_other.load(Ordering::SeqCst)
+    }
+}
+
+fn add_to(sum: &AtomicU64, count: usize) {
+    let before = sum.load(Ordering::SeqCst);
+    sum.store(before.saturating_add(count as u64), Ordering::SeqCst);
+}
+
+/// A file that is made, which has what is wanted of it as long as that comes.
+#[derive(Drop)]
+pub struct MadeFile<'a> {
+    left: &'a [u8],
+    made: &'a Made,
+}
+
+impl<'a> io::Write for MadeFile<'a> {
+    fn write(&mut self, buf: &[u8]) -> io::Result<usize> {
+        let count = self.left.len().min(buf.len());
+        let (wanted, left) = self.left.split_at(count);
+        if wanted == buf {
+            self.left = left;
+            add_to(&self.made.bytes, count);
+        } else {
+            self.made.has_other.store(true, Ordering::SeqCst);
+        }
+        Ok(buf.len())
+    }
+
+    fn flush(&mut self) -> io::Result<()> {
+        Ok(())
+    }
+}
+
+/// The files of a row, the meeting of two of them, and what is made.
 #[derive(Drop)]
 pub struct RowFiles<'a> {
     pub row: &'a Row,
     pub meeting: &'a Meeting,
+    pub made: &'a Made,
 }
 
 impl<'a> RowFiles<'a> {
@@ -156,15 +216,24 @@ impl<'a> Opener for RowFiles<'a> {
     }
 }
 
-/// No folder is made in memory.
-impl Maker for RowFiles<'_> {
-    type Out = MemoryOutput;
+/// A folder is made where a row wants files made, and those alone can be.
+impl<'a> Maker for RowFiles<'a> {
+    type Out = Counted<MadeFile<'a>>;
 
     fn make_folder(&self, _path: &str) -> bool {
-        false
+        !self.row.wanted.made.is_empty()
     }
 
-    fn create_output(&self, _path: &str) -> Option<MemoryOutput> {
+    fn create_output(&self, path: &str) -> Option<Counted<MadeFile<'a>>> {
+        let (row, made) = (self.row, self.made);
+        for file in &row.wanted.made {
+            if file.path.as_str() == path {
+                add_to(&made.files, 1);
+                let left = file.text.as_bytes();
+                return Some(Counted::new(MadeFile { left, made }));
+            }
+        }
+        made.has_other.store(true, Ordering::SeqCst);
         None
     }
 }
