@@ -1,0 +1,17 @@
+pub mod PlaceCuts
+pub mod CutLists
+pub mod StartedLemmas
+pub mod FrontStarts
+pub mod CutWindows
+pub mod CleanLemmas
+pub mod FirstNeeds
+pub mod NeedForms
+pub mod SecondNeeds
+pub mod StandForms
+pub mod CutStands
+pub mod CutNeeds
+pub mod CutCauses
+pub mod CutHeld
+pub mod RowLemmas
+pub mod RightWindows
+pub mod CutChains
