@@ -1,12 +1,12 @@
 -- What a clean cut says of the calls in its first window: each message and each collective is whole there.
-use Rattle.std.proofs.Common.{◌≡◌, ℕ, zero, suc, ◌+◌, ◌<◌, ◌≤◌, ◌==◌, Bool, true, false, not, ◌&&◌, ◌||◌, Option, Some, None, List, [], ◌∷◌, length, get_or, drop, refl, sym, ap, subst, ◌∙◌, ⊎_elim, arith}
+use Rattle.std.proofs.Common.{◌≡◌, ℕ, zero, suc, ◌+◌, ◌<◌, ◌≤◌, ◌==◌, Bool, true, false, not, ◌||◌, Option, Some, None, List, [], ◌∷◌, length, get_or, refl, sym, ap, ◌∙◌, ⊎_elim, arith}
 use Rattle.std.specs.Prelude.{is_some, is_none}
 use Rattle.std.specs.List.{slice_get, list_any, list_all, range_with_len}
-use Rattle.std.specs.Option.{option_map, option_map_or, option_and_then}
+use Rattle.std.specs.Option.{option_map, option_map_or}
 use Rattle.std.proofs.lemmas.List.{length-take-le}
 use Rattle.std.proofs.lemmas.List.Quantifiers.{position-Some}
-use Rattle.std.proofs.lemmas.Option.{none-some, same_Some, slice_get-get_or, slice_get_within}
-use Rattle.std.proofs.lemmas.Bool.{cases_Bool, cases_eq, cases_lt, and_parts, false≢true, or_left, not-true, eqb-true, eq-eqb, ltb-true}
+use Rattle.std.proofs.lemmas.Option.{slice_get-get_or, slice_get_within}
+use Rattle.std.proofs.lemmas.Bool.{cases_Bool, cases_eq, cases_lt, and_parts, false≢true, or_left, not-true, eqb-true, ltb-true}
 use lib.Dec.{ltb}
 use Rattle.mpicall.specs.declared.call.Call.{Call}
 use Rattle.mpicall.specs.declared.call.Call.TheVariants.{Irecv, Finalize}
@@ -19,16 +19,16 @@ use Rattle.callstore.specs.Recordings.{Lists, calls_of}
 use Rattle.callstore.specs.Places.{places}
 use Rattle.callstore.specs.Envelopes.{message_of, probed_message, envelope_by, envelope_of, same_envelope, has_envelope, other_half, rank_of_half}
 use Rattle.callstore.specs.Requests.{is_among}
-use Rattle.callstore.specs.Waves.{does_join, place_in_wave, wave_of, is_full}
+use Rattle.callstore.specs.Waves.{does_join, place_in_wave, is_full}
 use Rattle.callstore.proofs.OptionLemmas.{and_then_parts}
 use Rattle.callstore.proofs.WaveLemmas.{no_other_call_is_in_a_wave}
 use Rattle.pairing.specs.Faults.{is_member}
-use Rattle.pairing.specs.Partners.{number_of, places_of, partner_of}
+use Rattle.pairing.specs.Partners.{places_of, partner_of}
 use Rattle.pairing.specs.Probed.{probed_of}
 use Rattle.pairing.proofs.PartnerLemmas.{has_it, same_envelope_refl, numbered_half}
 use Rattle.windows.specs.Cuts.{Cut, before_cut, starts_receive, is_moved, first_calls, first_window}
 use Rattle.windows.specs.Clean.{found_at, has_its_partner, sees_its_send, has_its_wave, has_all, takes, none_overtakes, are_in_turn, is_clean_at, is_clean}
-use Rattle.windows.proofs.PlaceCuts.{count, places_count, has_place}
+use Rattle.windows.proofs.PlaceCuts.{count, has_place}
 use Rattle.windows.proofs.CutLists.{FailsAlone, InTurn, any_there, first_length, moved_receives}
 use Rattle.windows.proofs.CutWindows.{before_past, first_places, first_count}
 

@@ -1,16 +1,13 @@
 -- What windows tell one after another.
-use Rattle.moves.specs.declared.reading.Reading.{Reading}
-use Rattle.std.proofs.Common.{◌≡◌, ◌↔◌, ℕ, ◌<◌, true, ◌&&◌, List, [], ◌∷◌, length, map, refl, sym, ap, ◌∙◌, arith}
-use Rattle.std.specs.Prelude.{slice_index}
+use Rattle.std.proofs.Common.{◌≡◌, ◌↔◌, true, List, [], ◌∷◌, length, map, refl, ap, ◌∙◌, arith}
 use Rattle.std.proofs.lemmas.Bool.{and_parts}
 use Rattle.mpigroup.specs.Groups.{Groups}
 use Rattle.callstore.specs.Recordings.{Lists}
 use Rattle.moves.specs.declared.need.Need.{Need}
-use Rattle.moves.specs.Stands.{stands_of}
-use Rattle.waitgraph.specs.Stuck.{is_stuck, unmet_of}
-use Rattle.windows.specs.Cuts.{Cut, first_window, second_window, place_in_whole, need_in_whole}
+use Rattle.waitgraph.specs.Stuck.{unmet_of}
+use Rattle.windows.specs.Cuts.{Cut, second_window, place_in_whole, need_in_whole}
 use Rattle.windows.specs.Clean.{IsRightRecording, is_clean}
-use Rattle.windows.specs.Chains.{left_of, are_clean, AreFree, place_through, need_through, TheRestDecides, AfterFreeWindowsTheRestDecides, IsHeldThrough, StuckInTheFirstThatIsNotFree}
+use Rattle.windows.specs.Chains.{left_of, are_clean, place_through, need_through, AfterFreeWindowsTheRestDecides, StuckInTheFirstThatIsNotFree}
 use Rattle.windows.proofs.CutWindows.{second_ranks}
 use Rattle.windows.proofs.CutHeld.{after_a_free_window_the_second_decides, stuck_in_the_first_is_held_in_the_whole}
 use Rattle.windows.proofs.RightWindows.{windows_are_right}

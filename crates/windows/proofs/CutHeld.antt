@@ -1,28 +1,24 @@
 -- Which ranks are held in the whole recording, by the two windows of a clean cut.
 use Rattle.moves.specs.declared.reading.Reading.{Reading}
-use Rattle.std.proofs.Common.{◌≡◌, ◌⊎◌, ◌↔◌, inl, inr, ℕ, zero, suc, ◌+◌, ◌-◌, ◌<◌, ◌≤◌, Bool, true, false, not, ◌&&◌, ◌||◌, Option, Some, None, List, [], ◌∷◌, ◌++◌, length, map, drop, refl, sym, ap, subst, ◌∙◌, ⊎_elim, arith, length-append, length-drop}
+use Rattle.std.proofs.Common.{◌≡◌, ◌↔◌, inl, inr, ℕ, suc, ◌+◌, ◌-◌, ◌<◌, ◌≤◌, Bool, true, false, not, ◌&&◌, ◌||◌, Option, Some, List, [], ◌∷◌, ◌++◌, length, map, drop, refl, sym, ap, subst, ◌∙◌, ⊎_elim, arith, length-append, length-drop}
 use Rattle.std.specs.Prelude.{nat_lt, slice_index}
 use Rattle.std.specs.List.{slice_get, filter, list_any, list_all, range_with_len}
 use Rattle.std.specs.Option.{option_map_or}
-use Rattle.std.proofs.lemmas.Option.{none-some, same_Some, slice_get_within}
-use Rattle.std.proofs.lemmas.Bool.{cases_Bool, cases_lt, false≢true, and_parts, and_from, le-leb, lt-leb, lt-ltb, ltb-true, leb-true, leb-false, or_left, not-false, not-true}
+use Rattle.std.proofs.lemmas.Bool.{cases_Bool, cases_lt, false≢true, and_parts, le-leb, lt-leb, lt-ltb, ltb-true, leb-false, or_left, not-false, not-true}
 use lib.Dec.{leb}
 use Rattle.mpicall.specs.Ending.{ends_list}
 use Rattle.mpicall.specs.declared.call.Call.{Call}
 use Rattle.mpicall.specs.declared.call.Call.TheVariants.{Finalize}
 use Rattle.mpigroup.specs.Groups.{Groups}
-use Rattle.mpigroup.proofs.ListLemmas.{get_end}
 use Rattle.callstore.specs.Recordings.{Lists, calls_of, has_end, IsClosed}
-use Rattle.callstore.specs.Communicators.{comm_of}
 use Rattle.callstore.proofs.PlaceLemmas.{slice_get_there}
-use Rattle.pairing.specs.Faults.{is_member}
 use Rattle.pairing.specs.LeftOpen.{leaves_open, is_left_open}
 use Rattle.moves.specs.declared.need.Need.{Need}
 use Rattle.moves.specs.declared.need.Need.TheVariants.{At, Lacking}
 use Rattle.moves.specs.Runs.{State}
-use Rattle.moves.specs.Needs.{needs_of, is_met, may_pass, can_move}
+use Rattle.moves.specs.Needs.{needs_of, is_met, may_pass}
 use Rattle.moves.specs.Stands.{stands_of, is_at_end}
-use Rattle.waitgraph.specs.Stuck.{rank_needed, unmet_of, is_stuck}
+use Rattle.waitgraph.specs.Stuck.{unmet_of, is_stuck}
 use Rattle.waitgraph.specs.Held.{Set, is_missing, is_blocked, waits_for, IsDeadlocked, IsHeld, is_some_left_open}
 use Rattle.waitgraph.specs.Verdicts.{IsVerdictOf}
 use Rattle.waitgraph.specs.declared.verdict.Verdict.{Verdict}
@@ -31,15 +27,15 @@ use Rattle.waitgraph.proofs.AmongLemmas.{Among, one_fails}
 use Rattle.waitgraph.proofs.DeadlockLemmas.{waits_from, held_within}
 use Rattle.waitgraph.proofs.VerdictLemmas.{without_open_the_stuck_are_held}
 use Rattle.windows.specs.Cuts.{Cut, before_cut, after_cut, first_calls, first_window, front_of, second_window, need_in_whole}
-use Rattle.windows.specs.Clean.{IsRightRecording, is_right, is_clean}
+use Rattle.windows.specs.Clean.{IsRightRecording}
 use Rattle.windows.specs.Laws.{SecondDecides, AfterAFreeWindowTheSecondDecides, IsHeldAlike, StuckInTheFirstIsHeldInTheWhole, AHangInTheFirstIsOne}
-use Rattle.windows.proofs.CutLists.{behind_first, first_length}
-use Rattle.windows.proofs.CutWindows.{whole_calls, none_past, first_past, first_ranks, second_ranks, second_calls, first_window_calls, call_before, call_in_first}
-use Rattle.windows.proofs.CleanLemmas.{CleanCut, clean_parts, rank_before, all_pass}
+use Rattle.windows.proofs.CutLists.{behind_first}
+use Rattle.windows.proofs.CutWindows.{whole_calls, none_past, first_past, first_ranks, second_ranks, second_calls, first_window_calls, call_in_first}
+use Rattle.windows.proofs.CleanLemmas.{CleanCut, clean_parts, rank_before}
 use Rattle.windows.proofs.FirstNeeds.{AreBefore, needs_same}
-use Rattle.windows.proofs.SecondNeeds.{lacks, StandAlike, AreMembers}
+use Rattle.windows.proofs.SecondNeeds.{lacks, AreMembers}
 use Rattle.windows.proofs.StandForms.{stands_stuck}
-use Rattle.windows.proofs.CutStands.{ends_same, StandsFirst, stands_first, stands_there, before_none, front_behind, stands_behind, stand_alike, no_end_before, comes_to_cut, stuck_before}
+use Rattle.windows.proofs.CutStands.{ends_same, stands_first, stands_there, before_none, front_behind, stands_behind, stand_alike, no_end_before, comes_to_cut, stuck_before}
 use Rattle.windows.proofs.CutCauses.{causes_same}
 use Rattle.windows.proofs.CutNeeds.{lacked_shift, unmet_shift, unmet_same}
 

@@ -1,8 +1,8 @@
 -- What the calls before a cut become in the two windows: each is in the first one as it was, or it is in front of the
 -- second one, if a test tells it at all.
-use Rattle.std.proofs.Common.{◌≡◌, ℕ, zero, suc, ◌+◌, ◌<◌, ◌≤◌, Bool, true, false, not, ◌&&◌, ◌||◌, Option, Some, None, if◌then◌else◌, List, [], ◌∷◌, ◌++◌, length, take, drop, refl, sym, ap, subst, ◌∙◌, ⊎_elim, arith, length-append}
+use Rattle.std.proofs.Common.{◌≡◌, ℕ, zero, suc, ◌+◌, ◌<◌, Bool, true, false, Option, Some, None, if◌then◌else◌, List, [], ◌∷◌, ◌++◌, length, take, drop, refl, sym, ap, ◌∙◌, ⊎_elim, arith, length-append}
 use Rattle.std.specs.List.{slice_get, list_any}
-use Rattle.std.specs.Option.{option_map_or, option_and_then}
+use Rattle.std.specs.Option.{option_map_or}
 use Rattle.std.proofs.lemmas.Option.{none-some, same_Some, slice_get_within}
 use Rattle.std.proofs.lemmas.Bool.{cases_Bool, and_parts, false≢true, or_left, or_right, or_parts}
 use Rattle.mpicall.specs.declared.call.Mode.TheVariants.{Standard}
@@ -10,7 +10,6 @@ use Rattle.mpicall.specs.declared.call.Peer.TheVariants.{Null}
 use Rattle.mpicall.specs.declared.call.Call.{Call}
 use Rattle.mpicall.specs.declared.call.Call.TheVariants.{Isend, Irecv}
 use Rattle.callstore.specs.Places.{places_from}
-use Rattle.callstore.specs.Requests.{starts, does_complete}
 use Rattle.windows.specs.Cuts.{left_active, starts_receive, is_moved, without_peer, first_calls, started_again, front_calls}
 use Rattle.windows.proofs.PlaceCuts.{count, count-append, places_count}
 

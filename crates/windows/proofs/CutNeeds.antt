@@ -1,10 +1,10 @@
 -- What ranks lack in the whole recording, by what they lack in the two windows of a clean cut.
 use Rattle.moves.specs.declared.reading.Reading.{Reading}
-use Rattle.std.proofs.Common.{◌≡◌, ◌⊎◌, inl, inr, ℕ, zero, suc, ◌+◌, ◌-◌, ◌<◌, ◌≤◌, ◌==◌, Bool, true, false, not, ◌&&◌, ◌||◌, Option, Some, None, List, [], ◌∷◌, ◌++◌, length, map, refl, sym, ap, subst, ◌∙◌, ⊎_elim, arith}
+use Rattle.std.proofs.Common.{◌≡◌, ℕ, ◌<◌, ◌≤◌, ◌==◌, Bool, true, false, ◌&&◌, ◌||◌, List, [], ◌∷◌, ◌++◌, length, map, refl, sym, ap, subst, ◌∙◌, ⊎_elim, arith}
 use Rattle.std.specs.Prelude.{nat_lt, slice_index}
-use Rattle.std.specs.List.{slice_get, filter, fold, list_any, list_all}
+use Rattle.std.specs.List.{filter, fold}
 use Rattle.std.proofs.lemmas.List.{map-append}
-use Rattle.std.proofs.lemmas.Bool.{cases_Bool, cases_lt, false≢true, le-leb, lt-leb, lt-ltb, le-ltb, eqb-true, not-true, leb-false}
+use Rattle.std.proofs.lemmas.Bool.{cases_Bool, cases_lt, lt-ltb, le-ltb, eqb-true, leb-false}
 use Rattle.mpigroup.specs.Groups.{Groups}
 use Rattle.callstore.specs.Recordings.{Lists}
 use Rattle.callstore.proofs.PlaceLemmas.{slice_get_there}
@@ -12,8 +12,7 @@ use Rattle.moves.specs.declared.need.Need.{Need}
 use Rattle.moves.specs.declared.need.Need.TheVariants.{At, Lacking}
 use Rattle.moves.specs.Runs.{State}
 use Rattle.moves.specs.Needs.{needs_of, is_met}
-use Rattle.moves.specs.Stands.{stands_of}
-use Rattle.waitgraph.specs.Stuck.{rank_needed, is_earlier, comes_before, with_need, needs_in_order, unmet_at, unmet_of}
+use Rattle.waitgraph.specs.Stuck.{comes_before, with_need, needs_in_order, unmet_at}
 use Rattle.windows.specs.Cuts.{Cut, before_cut, first_window, front_of, second_window, place_in_whole, need_in_whole}
 use Rattle.windows.proofs.CleanLemmas.{CleanCut}
 use Rattle.windows.proofs.FirstNeeds.{AreBefore, needs_same}

@@ -1,11 +1,11 @@
 -- Where ranks come to stand in the whole recording, by where they stand in the two windows of a clean cut.
 use Rattle.moves.specs.declared.reading.Reading.{Reading}
-use Rattle.std.proofs.Common.{◌≡◌, ◌⊎◌, inl, inr, ℕ, zero, suc, ◌+◌, ◌-◌, ◌<◌, ◌≤◌, Bool, true, false, not, ◌&&◌, Option, Some, None, if◌then◌else◌, List, [], ◌∷◌, ◌++◌, length, map, drop, refl, sym, ap, subst, ◌∙◌, ⊎_elim, arith}
+use Rattle.std.proofs.Common.{◌≡◌, ℕ, zero, suc, ◌+◌, ◌-◌, ◌<◌, ◌≤◌, Bool, true, false, not, ◌&&◌, Option, Some, None, if◌then◌else◌, List, [], ◌∷◌, ◌++◌, length, drop, refl, sym, ap, subst, ◌∙◌, ⊎_elim, arith}
 use Rattle.std.specs.Prelude.{is_some, slice_index}
 use Rattle.std.specs.List.{slice_get, filter, list_all}
 use Rattle.std.specs.Option.{option_map_or}
 use Rattle.std.proofs.lemmas.Option.{none-some, same_Some, slice_get_within}
-use Rattle.std.proofs.lemmas.Bool.{cases_Bool, cases_lt, and_parts, and_from, false≢true, le-leb, leb-true, false_from_ne_true, lt-ltb, le-ltb}
+use Rattle.std.proofs.lemmas.Bool.{cases_lt, and_parts, and_from, false≢true, le-leb, leb-true, false_from_ne_true, lt-ltb, le-ltb}
 use lib.Dec.{ltb}
 use Rattle.mpicall.specs.Ending.{ends_list}
 use Rattle.mpicall.specs.declared.call.Mode.TheVariants.{Standard}
@@ -25,12 +25,12 @@ use Rattle.moves.specs.Needs.{needs_of, is_met, may_pass, can_move}
 use Rattle.moves.specs.Stands.{stands_of, is_at_end}
 use Rattle.moves.proofs.NeedLemmas.{can_move_is_persistent, can_from_pass}
 use Rattle.waitgraph.proofs.StuckLemmas.{ends_at}
-use Rattle.windows.specs.Cuts.{Cut, before_cut, after_cut, left_active, is_moved, without_peer, first_calls, first_window, started_again, front_calls, front_of, second_window, place_in_whole, need_in_whole}
+use Rattle.windows.specs.Cuts.{Cut, before_cut, after_cut, left_active, is_moved, without_peer, first_calls, first_window, front_calls, front_of, second_window, place_in_whole, need_in_whole}
 use Rattle.windows.proofs.CutLists.{as_first, first_length}
 use Rattle.windows.proofs.CutWindows.{before_past, first_ranks, second_ranks, second_calls, first_window_calls, call_before, call_in_first}
 use Rattle.windows.proofs.CleanLemmas.{CleanCut, before_length, rank_before}
-use Rattle.windows.proofs.FirstNeeds.{AreBefore, SameNeeds, needs_same}
-use Rattle.windows.proofs.SecondNeeds.{lacks, StandAlike, AreMembers, Shifts, needs_shift, whole_at, second_at}
+use Rattle.windows.proofs.FirstNeeds.{AreBefore, needs_same}
+use Rattle.windows.proofs.SecondNeeds.{lacks, StandAlike, AreMembers, needs_shift, whole_at, second_at}
 use Rattle.windows.proofs.StandForms.{state_of, state_ranks, state_at, state_past, stands_ranks, stands_stuck, stands_past, least, can_at, both_same, is_none_of, none_mapped, met_all}
 use Rattle.callstore.proofs.PlaceLemmas.{slice_get-front}
 

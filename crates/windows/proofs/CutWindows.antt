@@ -1,23 +1,23 @@
 -- The lists of the two windows of a cut, and what is told of their places and requests by the whole recording.
-use Rattle.std.proofs.Common.{◌≡◌, ◌⊎◌, inl, inr, ℕ, zero, suc, ◌+◌, ◌<◌, ◌≤◌, Bool, true, false, Option, Some, None, unwrap_or, if◌then◌else◌, List, [], ◌∷◌, ◌++◌, length, map, take, drop, refl, sym, ap, subst, ◌∙◌, ⊎_elim, arith, take-append-drop, append-nil}
+use Rattle.std.proofs.Common.{◌≡◌, ◌⊎◌, inl, inr, ℕ, zero, suc, ◌+◌, ◌<◌, ◌≤◌, Bool, true, false, Option, Some, None, unwrap_or, List, [], ◌∷◌, ◌++◌, length, map, take, drop, refl, sym, ap, ◌∙◌, ⊎_elim, arith, take-append-drop}
 use Rattle.std.specs.List.{slice_get, list_any, range_with_len}
 use Rattle.std.specs.Option.{option_map}
 use Rattle.std.proofs.lemmas.List.{take-append-le, length-take}
 use Rattle.std.proofs.lemmas.List.FromFn.{length-map-range_with_len, get_or-map-range_with_len}
-use Rattle.std.proofs.lemmas.Option.{none-some, slice_get-get_or, slice_get_past, slice_get_within}
+use Rattle.std.proofs.lemmas.Option.{slice_get-get_or, slice_get_past, slice_get_within}
 use Rattle.std.proofs.lemmas.Bool.{cases_lt, cases_Bool}
 use Rattle.mpicall.specs.declared.call.Call.{Call}
 use Rattle.mpicall.specs.declared.call.Call.TheVariants.{Finalize}
 use Rattle.callstore.specs.Recordings.{Lists, calls_of}
-use Rattle.callstore.specs.Places.{places_from, places, count_before}
+use Rattle.callstore.specs.Places.{places, count_before}
 use Rattle.callstore.specs.Requests.{does_start, does_complete, started_in, started_before}
 use Rattle.callstore.proofs.PlaceLemmas.{slice_get-front}
 use Rattle.callstore.proofs.PlacesLemmas.{places_push_not}
 use Rattle.windows.specs.Cuts.{Cut, before_cut, after_cut, is_moved, first_calls, front_calls, first_window, front_of, second_window}
 use Rattle.windows.proofs.PlaceCuts.{count, count-append, places_count, get-front, place_less, SamePlace, same_place}
-use Rattle.windows.proofs.CutLists.{as_first, front_before, FailsAlone, InTurn, first_length, first_get, counts_split, counts_all, behind_first, take_behind, front_take, none_in_front, none_behind_moved, first_prefix}
-use Rattle.windows.proofs.StartedLemmas.{started_after, started-append, StartedAt, started_at}
-use Rattle.windows.proofs.FrontStarts.{front_completes, front_started}
+use Rattle.windows.proofs.CutLists.{as_first, front_before, FailsAlone, InTurn, first_length, first_get, counts_split, counts_all, take_behind, front_take, none_in_front, none_behind_moved, first_prefix}
+use Rattle.windows.proofs.StartedLemmas.{started-append, StartedAt, started_at}
+use Rattle.windows.proofs.FrontStarts.{front_started}
 
 -- a table over the ranks, asked for one of them
 in_table : {X : Type 0} (f : ℕ → X) (n rank : ℕ) (d : X) → rank < n → slice_get (map f (range_with_len 0 n)) rank ≡ Some (f rank)

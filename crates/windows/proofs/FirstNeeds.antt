@@ -1,15 +1,14 @@
 -- What a call before a clean cut needs is the same in the first window, and is before the cut.
 use Rattle.moves.specs.declared.reading.Reading.{Reading}
-use Rattle.std.proofs.Common.{◌≡◌, ℕ, zero, suc, ◌+◌, ◌<◌, ◌≤◌, ◌==◌, Bool, true, false, ◌&&◌, ◌||◌, Option, Some, None, if◌then◌else◌, List, [], ◌∷◌, ◌++◌, map, flat_map, length, take, drop, refl, sym, ap, subst, ◌∙◌, ⊎_elim, arith}
+use Rattle.std.proofs.Common.{◌≡◌, ℕ, zero, suc, ◌<◌, ◌≤◌, ◌==◌, Bool, true, false, ◌&&◌, Option, Some, None, if◌then◌else◌, List, [], ◌∷◌, ◌++◌, map, flat_map, length, take, drop, refl, sym, ap, subst, ◌∙◌, ⊎_elim, arith}
 use Rattle.std.specs.Prelude.{is_some}
 use Rattle.std.specs.List.{slice_get, list_any}
-use Rattle.std.specs.Option.{option_map, option_map_or, option_and_then}
+use Rattle.std.specs.Option.{option_map, option_map_or}
 use Rattle.std.proofs.lemmas.Option.{none-some, same_Some, slice_get_within}
-use Rattle.std.proofs.lemmas.Bool.{cases_Bool, false≢true, or_left, or_right, eq-eqb}
+use Rattle.std.proofs.lemmas.Bool.{cases_Bool, or_left, or_right, eq-eqb}
 use Rattle.mpicall.specs.declared.call.Call.{Call}
 use Rattle.mpicall.specs.declared.call.Call.TheVariants.{Irecv}
 use Rattle.mpigroup.specs.Groups.{Groups, group_of}
-use Rattle.callstore.specs.declared.envelope.Envelope.{Envelope}
 use Rattle.callstore.specs.declared.envelope.Half.{Half}
 use Rattle.callstore.specs.declared.envelope.Half.TheVariants.{Send as SendHalf, Recv as RecvHalf}
 use Rattle.callstore.specs.declared.envelope.Message.{Message}
@@ -27,8 +26,8 @@ use Rattle.moves.specs.declared.need.Need.TheVariants.{At, Lacking}
 use Rattle.moves.specs.Needs.{world_of, half_need, half_needs, probe_need, probe_needs, member_need, wave_needs, sends_freely, operation_needs, operation_needs_at, request_needs, needs_of_call, needs_of}
 use Rattle.windows.specs.Cuts.{Cut, before_cut, left_active, starts_receive, is_moved, without_peer, first_calls, first_window}
 use Rattle.windows.specs.Clean.{takes}
-use Rattle.windows.proofs.CutLists.{as_first, first_get, moved_active}
-use Rattle.windows.proofs.StartedLemmas.{AreAlike, started_alike, StartedAt, started_at}
+use Rattle.windows.proofs.CutLists.{moved_active}
+use Rattle.windows.proofs.StartedLemmas.{AreAlike, started_alike, started_at}
 use Rattle.windows.proofs.CutWindows.{call_before, call_in_first, take_before, take_in_first, place_in_first, number_in_first}
 use Rattle.windows.proofs.CleanLemmas.{it_has, CleanCut, HasAll, all_parts, all_among, some_parts, half_alone, joins_alone, half_last, overtakes, half_overtakes, halves_in_turn, none_moved, receives_join_none, partner_there, send_there}
 

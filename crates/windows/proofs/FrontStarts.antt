@@ -1,8 +1,8 @@
 -- Where a request that is active at a cut was started in the second window.
-use Rattle.std.proofs.Common.{◌≡◌, ℕ, zero, suc, ◌+◌, Bool, true, false, not, ◌&&◌, ◌||◌, ◌==◌, Option, Some, None, if◌then◌else◌, List, [], ◌∷◌, ◌++◌, length, refl, sym, ap, ◌∙◌, ⊎_elim, arith, length-append}
+use Rattle.std.proofs.Common.{◌≡◌, ℕ, suc, ◌+◌, Bool, true, false, not, ◌&&◌, ◌||◌, ◌==◌, Option, Some, None, if◌then◌else◌, List, [], ◌∷◌, length, refl, sym, ap, ◌∙◌, ⊎_elim, length-append}
 use Rattle.std.specs.Prelude.{is_some}
 use Rattle.std.specs.List.{list_any}
-use Rattle.std.specs.Option.{option_map, option_map_or, option_and_then}
+use Rattle.std.specs.Option.{option_map, option_map_or}
 use Rattle.std.proofs.lemmas.Option.{none-some}
 use Rattle.std.proofs.lemmas.List.Folds.{list_any-append}
 use Rattle.std.proofs.lemmas.Bool.{cases_Bool, false≢true, eqb-true, or_parts}
@@ -13,7 +13,7 @@ use Rattle.mpicall.specs.declared.call.Call.TheVariants.{Isend, Irecv}
 use Rattle.callstore.specs.Requests.{starts, does_start, does_complete, started_in}
 use Rattle.windows.specs.Cuts.{left_active, starts_receive, is_moved, started_again, front_calls}
 use Rattle.windows.proofs.CutLists.{front_before, moved_receives, anew_moved}
-use Rattle.windows.proofs.StartedLemmas.{started_from, started-cons, started-append, none_started}
+use Rattle.windows.proofs.StartedLemmas.{started-cons, started-append, none_started}
 
 -- a call that starts a receive completes no request
 receive_completes : (call : Call) (req : ℕ) → starts_receive call ≡ true → does_complete req call ≡ false

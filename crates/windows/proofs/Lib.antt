@@ -15,3 +15,5 @@ pub mod CutHeld
 pub mod RowLemmas
 pub mod RightWindows
 pub mod CutChains
+pub mod LawfulRight
+pub mod EvenCuts

@@ -1,5 +1,5 @@
 -- The forms that needs have: for the place with a number of a rank's list, or lacking.
-use Rattle.std.proofs.Common.{◌≡◌, ℕ, Bool, Option, Some, None, unwrap_or, List, refl, sym, ap, subst, ◌∙◌}
+use Rattle.std.proofs.Common.{◌≡◌, ℕ, Option, Some, None, unwrap_or, refl, sym, ap, subst}
 use Rattle.std.specs.List.{slice_get}
 use Rattle.std.specs.Option.{option_map, option_map_or}
 use Rattle.mpicall.specs.declared.call.Call.{Call}
@@ -13,7 +13,6 @@ use Rattle.callstore.specs.Envelopes.{message_of, other_half, envelope_by, envel
 use Rattle.callstore.proofs.OptionLemmas.{map_parts}
 use Rattle.pairing.specs.Partners.{number_of}
 use Rattle.pairing.specs.Probed.{probed_envelope}
-use Rattle.moves.specs.declared.need.Need.{Need}
 use Rattle.moves.specs.declared.need.Need.TheVariants.{At, Lacking}
 use Rattle.moves.specs.Needs.{world_of, half_need, probe_need}
 use Rattle.moves.proofs.OntoLemmas.{nth_need}

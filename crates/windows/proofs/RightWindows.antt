@@ -1,9 +1,9 @@
 -- The windows of a clean cut are recordings as the whole one is, so that each can be cut in its turn.
 use Rattle.moves.specs.declared.reading.Reading.TheVariants.{Strict}
-use Rattle.std.proofs.Common.{◌≡◌, ◌⊎◌, inl, inr, ℕ, zero, suc, ◌+◌, ◌-◌, ◌<◌, ◌≤◌, Bool, true, false, not, ◌&&◌, ◌||◌, Option, Some, None, if◌then◌else◌, List, [], ◌∷◌, ◌++◌, length, take, drop, refl, sym, ap, subst, ◌∙◌, ⊎_elim, arith, append_assoc}
+use Rattle.std.proofs.Common.{◌≡◌, ℕ, zero, suc, ◌+◌, ◌-◌, ◌<◌, ◌≤◌, Bool, true, false, not, ◌&&◌, ◌||◌, Option, Some, None, if◌then◌else◌, List, [], ◌∷◌, ◌++◌, length, take, drop, refl, sym, ap, subst, ◌∙◌, ⊎_elim, arith, append_assoc}
 use Rattle.std.specs.Prelude.{is_some}
 use Rattle.std.specs.List.{slice_get, list_any, list_all}
-use Rattle.std.specs.Option.{option_map, option_map_or, option_and_then}
+use Rattle.std.specs.Option.{option_map, option_map_or}
 use Rattle.std.proofs.lemmas.List.{take_at, take-append-le, drop-append-le, length-append}
 use Rattle.std.proofs.lemmas.List.Folds.{list_any-append}
 use Rattle.std.proofs.lemmas.Option.{none-some, same_Some, slice_get_within}
@@ -13,21 +13,21 @@ use Rattle.mpicall.specs.declared.call.Mode.TheVariants.{Standard}
 use Rattle.mpicall.specs.declared.call.Peer.TheVariants.{Null}
 use Rattle.mpicall.specs.declared.call.Call.{Call}
 use Rattle.mpicall.specs.declared.call.Call.TheVariants.{Isend, Irecv, Finalize}
-use Rattle.mpigroup.specs.Groups.{Groups, group_of, group_rank_of, size_of}
-use Rattle.callstore.specs.Recordings.{Lists, calls_of, has_end, IsClosedList, IsClosed}
-use Rattle.callstore.specs.Communicators.{comm_of, makes}
-use Rattle.callstore.specs.Requests.{starts, completes, waits_for, does_start, does_complete, started_in, is_active}
-use Rattle.callstore.proofs.OptionLemmas.{and_then_parts, is_it}
+use Rattle.mpigroup.specs.Groups.{Groups}
+use Rattle.callstore.specs.Recordings.{Lists, calls_of, has_end, IsClosed}
+use Rattle.callstore.specs.Communicators.{comm_of}
+use Rattle.callstore.specs.Requests.{starts, waits_for, does_start, does_complete, started_in, is_active}
+use Rattle.callstore.proofs.OptionLemmas.{and_then_parts}
 use Rattle.callstore.proofs.PlaceLemmas.{slice_get-front, slice_get_there}
 use Rattle.pairing.specs.Faults.{is_comm, comm_exists, is_member, peers_exist, starts_afresh, are_distinct, waits_for_active}
 use Rattle.windows.specs.Cuts.{Cut, before_cut, after_cut, left_active, starts_receive, is_moved, without_peer, first_calls, first_window, started_again, front_calls, front_of, second_window}
-use Rattle.windows.specs.Clean.{makes_own, is_right, IsRightRecording, is_clean}
+use Rattle.windows.specs.Clean.{makes_own, is_right, IsRightRecording}
 use Rattle.windows.specs.Laws.{WindowsAreRight}
 use Rattle.windows.proofs.CutLists.{as_first, front_before, first_length, front_take, moved_receives, behind_first, take_behind}
-use Rattle.windows.proofs.StartedLemmas.{started_from, started-cons, started-append, none_started, started_alike}
+use Rattle.windows.proofs.StartedLemmas.{started-cons, none_started, started_alike}
 use Rattle.windows.proofs.FrontStarts.{active_if_started, anew_completes, anew_started}
 use Rattle.windows.proofs.CutWindows.{whole_calls, second_calls, first_window_calls, first_past, first_ranks, second_ranks, take_before, take_in_first, call_before, call_in_first, SameStart, same_start}
-use Rattle.windows.proofs.CleanLemmas.{CleanCut, clean_parts, rank_before, before_length}
+use Rattle.windows.proofs.CleanLemmas.{CleanCut, clean_parts, rank_before}
 use Rattle.windows.proofs.FirstNeeds.{first_alike}
 use Rattle.windows.proofs.CutStands.{ends_same, front_starts, starts_no_end, first_end, no_end_before}
 use Rattle.windows.proofs.CutHeld.{first_closed}
@@ -55,7 +55,7 @@ right_parts groups rank calls call h =
     let first = and_parts _ _ second.0 in
     record { goes_on = not-true (has_end calls) first.0; exists = first.1; member = second.1; peers = third.1; afresh = fourth.1; distinct = fifth.1; active = sixth.1; makes_it = seventh.1 }
 
-right_from : (groups : Groups) (rank : ℕ) (calls : List Call) (call : Call) → Right groups rank calls call → is_right groups rank calls call ≡ true
+pub right_from : (groups : Groups) (rank : ℕ) (calls : List Call) (call : Call) → Right groups rank calls call → is_right groups rank calls call ≡ true
 right_from groups rank calls call h =
     rw (h.goes_on, h.exists, h.member, h.peers, h.afresh, h.distinct, h.active, h.makes_it) refl
 

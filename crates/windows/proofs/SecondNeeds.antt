@@ -1,13 +1,13 @@
 -- What a call behind a clean cut needs and lacks is the same in the second window, but for the shift of places.
 use Rattle.moves.specs.declared.reading.Reading.{Reading}
-use Rattle.std.proofs.Common.{◌≡◌, ◌⊎◌, ℕ, zero, suc, ◌+◌, ◌-◌, ◌<◌, ◌≤◌, Bool, true, false, not, ◌&&◌, ◌||◌, Option, Some, None, if◌then◌else◌, List, [], ◌∷◌, ◌++◌, map, flat_map, length, drop, refl, sym, ap, subst, ◌∙◌, ⊎_elim, arith, inl, inr}
+use Rattle.std.proofs.Common.{◌≡◌, ℕ, suc, ◌+◌, ◌-◌, ◌<◌, ◌≤◌, Bool, true, false, not, Option, Some, None, if◌then◌else◌, List, [], ◌∷◌, ◌++◌, map, flat_map, length, drop, refl, sym, ap, subst, ◌∙◌, ⊎_elim, arith, inl, inr}
 use Rattle.std.specs.Prelude.{is_some, slice_index}
-use Rattle.std.specs.List.{slice_get, filter, list_any}
-use Rattle.std.specs.Option.{option_map, option_map_or, option_and_then}
+use Rattle.std.specs.List.{slice_get, filter}
+use Rattle.std.specs.Option.{option_map, option_map_or}
 use Rattle.std.proofs.lemmas.List.{map-append}
 use Rattle.std.proofs.lemmas.List.Elements.{filter-append}
-use Rattle.std.proofs.lemmas.Option.{none-some, same_Some, slice_get_within}
-use Rattle.std.proofs.lemmas.Bool.{cases_Bool, cases_lt, false≢true, le-leb, lt-leb, eq-eqb}
+use Rattle.std.proofs.lemmas.Option.{none-some, slice_get_within}
+use Rattle.std.proofs.lemmas.Bool.{cases_Bool, cases_lt, false≢true, le-leb, lt-leb}
 use Rattle.mpicall.specs.declared.call.Mode.TheVariants.{Standard}
 use Rattle.mpicall.specs.declared.call.Peer.TheVariants.{Null}
 use Rattle.mpicall.specs.declared.call.Call.{Call}
@@ -21,8 +21,8 @@ use Rattle.callstore.specs.Recordings.{Lists, calls_of}
 use Rattle.callstore.specs.Places.{places, count_before}
 use Rattle.callstore.specs.Communicators.{comm_of}
 use Rattle.callstore.specs.Envelopes.{message_of, envelope_of, has_envelope, other_half, rank_of_half, probed_message}
-use Rattle.callstore.specs.Requests.{starts, completes, is_among, does_start, does_complete, started_before}
-use Rattle.callstore.specs.Waves.{joins, does_join, wave_of}
+use Rattle.callstore.specs.Requests.{starts, completes, is_among, started_before}
+use Rattle.callstore.specs.Waves.{joins, does_join}
 use Rattle.callstore.proofs.PlaceLemmas.{slice_get-front}
 use Rattle.callstore.proofs.OptionLemmas.{is_it}
 use Rattle.pairing.specs.Faults.{is_member}
@@ -35,13 +35,13 @@ use Rattle.moves.specs.declared.need.Need.TheVariants.{At, Lacking}
 use Rattle.moves.specs.Runs.{State}
 use Rattle.moves.specs.Needs.{world_of, half_need, half_needs, probe_need, probe_needs, member_need, wave_needs, sends_freely, operation_needs, operation_needs_at, request_needs, needs_of_call, needs_of, is_met}
 use Rattle.moves.proofs.OntoLemmas.{nth_need}
-use Rattle.windows.specs.Cuts.{Cut, before_cut, after_cut, left_active, starts_receive, is_moved, first_calls, front_calls, front_of, second_window, need_in_whole}
+use Rattle.windows.specs.Cuts.{Cut, before_cut, after_cut, left_active, starts_receive, is_moved, front_of, second_window, need_in_whole}
 use Rattle.windows.proofs.PlaceCuts.{SamePlace}
 use Rattle.windows.proofs.CutLists.{front_before, front_get, moved_receives, behind_first}
 use Rattle.windows.proofs.StartedLemmas.{StartedAt}
 use Rattle.windows.proofs.CutWindows.{whole_calls, second_calls, call_before, number_behind, number_moved, same_nth, SameStart, same_start}
 use Rattle.windows.proofs.CleanLemmas.{it_has, CleanCut, half_alone, joins_alone, overtakes, half_overtakes, halves_in_turn, first_of, halves_same, waves_same, member_among, rank_before}
-use Rattle.windows.proofs.FirstNeeds.{AreBefore, SameNeeds, Stays, operation_at_same, among_first, among_later}
+use Rattle.windows.proofs.FirstNeeds.{AreBefore, operation_at_same, among_first, among_later}
 use Rattle.windows.proofs.NeedForms.{half_is, half_none, half_nobody, probe_is, probe_none, probe_nobody}
 
 -- the need isn't met in the state
@@ -58,6 +58,14 @@ pub record StandAlike (whole : Lists) (cut : Cut) (stands others : State) : Type
 abbrev pub AreMembers : Groups → Lists → Type 0
 AreMembers groups whole =
     (rank place : ℕ) (call : Call) → slice_get (calls_of whole rank) place ≡ Some call → option_map_or (is_member groups rank) (comm_of call) true ≡ true
+
+-- a call that joins a communicator names it
+pub joins_names : (call : Call) (comm : ℕ) → joins call ≡ Some comm → comm_of call ≡ Some comm
+joins_names (Coll own kind) comm is = is
+joins_names (Icoll req own kind) comm is = is
+joins_names (Dup own new) comm is = is
+joins_names (Split own colour key new) comm is = is
+joins_names _ comm is = absurd (none-some comm is)
 
 module _ (whole : Lists) (cut : Cut) (stands others : State) (alike : StandAlike whole cut stands others) where
   -- what is lacked of the needs is what is lacked of those in the second window
@@ -161,14 +169,6 @@ module _ (reading : Reading) (groups : Groups) (whole : Lists) (cut : Cut) (clea
       by_envelope : (o : Option Envelope) → probed_envelope groups rank call ≡ o → Shifts whole cut stands others alike (probe_need groups whole rank place m ∷ []) (probe_need groups (second_window whole cut) rank there m ∷ [])
       by_envelope None none = lack (probe_none groups whole rank place call m present.in_whole none) (probe_none groups (second_window whole cut) rank there call m present.in_second none)
       by_envelope (Some e) has = by_rank e has (rank_of_half groups SendHalf e) refl
-
-  -- a call that joins a communicator names it
-  joins_names : (call : Call) (comm : ℕ) → joins call ≡ Some comm → comm_of call ≡ Some comm
-  joins_names (Coll own kind) comm is = is
-  joins_names (Icoll req own kind) comm is = is
-  joins_names (Dup own new) comm is = is
-  joins_names (Split own colour key new) comm is = is
-  joins_names _ comm is = absurd (none-some comm is)
 
   wave_shift : (place there : ℕ) (call : Call) → Present place there call → ((comm : ℕ) → count_before (does_join comm) (calls_of whole rank) place ≡ first_of groups whole cut clean (does_join comm) rank + count_before (does_join comm) (calls_of (second_window whole cut) rank) there) → Shifts whole cut stands others alike (wave_needs groups whole rank place) (wave_needs groups (second_window whole cut) rank there)
   wave_shift place there call present numbers =

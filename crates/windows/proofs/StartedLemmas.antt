@@ -1,8 +1,7 @@
 -- Where a request was started, by the calls of a list one after another, and of lists that are put together.
-use Rattle.std.proofs.Common.{◌≡◌, ℕ, zero, suc, ◌+◌, ◌-◌, ◌<◌, ◌≤◌, Bool, true, false, not, ◌&&◌, ◌||◌, Option, Some, None, if◌then◌else◌, List, [], ◌∷◌, ◌++◌, length, take, drop, refl, sym, ap, subst, ◌∙◌, ⊎_elim, arith}
-use Rattle.std.specs.Prelude.{is_some}
+use Rattle.std.proofs.Common.{◌≡◌, ℕ, suc, ◌+◌, ◌-◌, Bool, true, false, not, ◌&&◌, ◌||◌, Option, Some, None, if◌then◌else◌, List, [], ◌∷◌, ◌++◌, length, drop, refl, sym, ap, ◌∙◌, ⊎_elim, arith}
 use Rattle.std.specs.List.{slice_get, list_any}
-use Rattle.std.specs.Option.{option_map, option_map_or, option_and_then}
+use Rattle.std.specs.Option.{option_map, option_and_then}
 use Rattle.std.proofs.lemmas.List.Folds.{list_any-append}
 use Rattle.std.proofs.lemmas.Option.{none-some, same_Some}
 use Rattle.std.proofs.lemmas.Bool.{cases_Bool, false≢true, or_parts}
@@ -10,7 +9,7 @@ use Rattle.mpicall.specs.declared.call.Call.{Call}
 use Rattle.callstore.specs.Places.{places_from, places}
 use Rattle.callstore.proofs.OptionLemmas.{map_parts}
 use Rattle.callstore.specs.Requests.{starts, completes, does_start, does_complete, last_of, unless_completed, started_in}
-use Rattle.windows.proofs.PlaceCuts.{get-shift, count, places_count}
+use Rattle.windows.proofs.PlaceCuts.{get-shift, places_count}
 
 -- the same, told one call after another: by the calls that follow, if one of them starts it, else by the first call
 abbrev pub started_from : Call → List Call → ℕ → Option ℕ

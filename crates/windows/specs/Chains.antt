@@ -2,7 +2,7 @@
 -- one after another is what the whole recording tells.
 use Rattle.mpicall.specs.Names.{Rank, Place}
 use Rattle.moves.specs.declared.reading.Reading.{Reading}
-use Rattle.std.specs.Prelude.{◌≡◌, ◌↔◌, ℕ, ◌<◌, Bool, true, ◌&&◌, List, [], ◌∷◌, length, map, slice_index}
+use Rattle.std.specs.Prelude.{◌≡◌, ◌↔◌, ◌<◌, Bool, true, ◌&&◌, List, [], ◌∷◌, length, map, slice_index}
 use Rattle.mpigroup.specs.Groups.{Groups}
 use Rattle.callstore.specs.Recordings.{Lists}
 use Rattle.moves.specs.declared.need.Need.{Need}

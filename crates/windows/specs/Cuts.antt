@@ -2,7 +2,7 @@
 -- How a recording is cut is this project's own; MPI says nothing of it. A request that was started before the cut and
 -- is waited for after it (MPI 4.0, section 3.7) is started in the second window again.
 use Rattle.mpicall.specs.Names.{Rank, Place, Request}
-use Rattle.std.specs.Prelude.{ℕ, ◌+◌, ◌-◌, Bool, true, false, ◌&&◌, Option, Some, None, option_and_then, if◌then◌else◌, List, [], ◌∷◌, ◌++◌, length, map, take, drop}
+use Rattle.std.specs.Prelude.{◌+◌, ◌-◌, Bool, true, false, ◌&&◌, Option, Some, None, option_and_then, if◌then◌else◌, List, [], ◌∷◌, ◌++◌, length, map, take, drop}
 use Rattle.std.specs.List.{list_any, range_with_len}
 use Rattle.std.specs.Option.{option_map_or}
 use Rattle.mpicall.specs.declared.call.Mode.TheVariants.{Standard}

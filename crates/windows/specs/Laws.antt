@@ -1,9 +1,10 @@
 -- Laws of clean cuts: the two windows decide for the whole recording where its ranks stand, and so whether it can hang.
 use Rattle.mpicall.specs.Names.{Rank}
 use Rattle.moves.specs.declared.reading.Reading.{Reading}
-use Rattle.std.specs.Prelude.{◌≡◌, ◌↔◌, ℕ, ◌≤◌, ◌<◌, true, List, length, map, slice_index}
+use Rattle.std.specs.Prelude.{◌≡◌, ◌↔◌, ◌≤◌, ◌<◌, true, List, length, map, slice_index}
 use Rattle.mpigroup.specs.Groups.{Groups}
-use Rattle.callstore.specs.Recordings.{Lists}
+use Rattle.callstore.specs.Recordings.{Lists, IsClosed}
+use Rattle.pairing.specs.Faults.{is_member, IsLawful}
 use Rattle.moves.specs.Stands.{stands_of}
 use Rattle.waitgraph.specs.Stuck.{is_stuck, unmet_of}
 use Rattle.waitgraph.specs.Held.{IsHeld}
@@ -12,7 +13,7 @@ use Rattle.waitgraph.specs.Verdicts.{IsVerdictOf}
 use Rattle.waitgraph.specs.declared.verdict.Verdict.{Verdict}
 use Rattle.waitgraph.specs.declared.verdict.Verdict.TheVariants.{Free, Hang}
 use Rattle.windows.specs.Cuts.{Cut, first_window, second_window, front_of, place_in_whole, need_in_whole}
-use Rattle.windows.specs.Clean.{IsRightRecording, is_clean}
+use Rattle.windows.specs.Clean.{IsRightRecording, is_clean, IsEven}
 
 -- the second window decides for the whole recording: each rank stands after the starts in front of it, in the whole
 -- recording at the place that is after the cut as far, lacks the same but for that shift, and is held in both or in
@@ -55,3 +56,15 @@ abbrev pub WindowsAreRight : Type 0
 WindowsAreRight =
     (groups : Groups) (whole : Lists) (cut : Cut) → IsRightRecording groups whole → is_clean groups whole cut ≡ true →
     IsRightRecording groups (first_window whole cut) × IsRightRecording groups (second_window whole cut)
+
+-- Law: a closed recording of ranks of the world in which no call has a fault is such a recording.
+abbrev pub LawfulRecordingsAreRight : Type 0
+LawfulRecordingsAreRight =
+    (groups : Groups) (recording : Lists) → IsLawful groups recording → IsClosed recording →
+    ((rank : Rank) → rank < length recording → is_member groups rank 0 ≡ true) → IsRightRecording groups recording
+
+-- Law: a cut of such a recording is clean exactly if it is even.
+abbrev pub CleanIsEven : Type 0
+CleanIsEven =
+    (groups : Groups) (whole : Lists) (cut : Cut) → IsRightRecording groups whole →
+    (is_clean groups whole cut ≡ true) ↔ IsEven groups whole cut

@@ -1,6 +1,6 @@
 -- Small recordings of two ranks with their cuts: whether each is clean, what its windows are, and where ranks stand.
 use Rattle.mpicall.specs.Names.{Rank, Place, Request, Tag}
-use Rattle.std.specs.Prelude.{◌≡◌, ℕ, true, false, Some, None, List, [], ◌∷◌, slice_index}
+use Rattle.std.specs.Prelude.{◌≡◌, true, false, Some, None, List, [], ◌∷◌, slice_index}
 use Rattle.mpicall.specs.declared.call.Mode.TheVariants.{Standard}
 use Rattle.mpicall.specs.declared.call.Peer.TheVariants as peer
 use Rattle.mpicall.specs.declared.call.Kind.TheVariants.{Barrier}

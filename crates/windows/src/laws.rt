@@ -1,7 +1,7 @@
 //! The laws that are proved.
 
 ghost use Rattle.windows.specs.Chains.{AfterFreeWindowsTheRestDecides, StuckInTheFirstThatIsNotFree};
-ghost use Rattle.windows.specs.Laws.{AfterAFreeWindowTheSecondDecides, StuckInTheFirstIsHeldInTheWhole, AHangInTheFirstIsOne, WindowsAreRight};
+ghost use Rattle.windows.specs.Laws.{AfterAFreeWindowTheSecondDecides, StuckInTheFirstIsHeldInTheWhole, AHangInTheFirstIsOne, WindowsAreRight, LawfulRecordingsAreRight, CleanIsEven};
 ghost use Rattle.windows.specs.Rows.{RowsAreRight};
 
 /// After a first window that is free the second one decides for the whole recording: where ranks stand, what they lack, which
@@ -38,4 +38,15 @@ pub fn after_free_windows_the_rest_decides()
 /// A rank that is stuck in the first window that isn't free is held in the whole recording.
 pub fn stuck_in_the_first_that_is_not_free()
     ensures { StuckInTheFirstThatIsNotFree }
+{}
+
+/// A closed recording in which no call has a fault is one that may be cut.
+pub fn lawful_recordings_are_right()
+    ensures { LawfulRecordingsAreRight }
+{}
+
+/// A cut is clean exactly if the first window has as many sends of each envelope as receives, as many calls of each member
+/// of a communicator, and what its probes see, and no receive that stays overtakes a moved one.
+pub fn clean_is_even()
+    ensures { CleanIsEven }
 {}
