@@ -5,3 +5,4 @@ pub mod Front
 pub mod Outputs
 pub mod Texts
 pub mod Journals
+pub mod Options

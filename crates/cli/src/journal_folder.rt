@@ -28,7 +28,7 @@ impl<'p, 'a, P> JournalFolder<'p, 'a, P> {
         }
     }
 
-    fn path_of(&self, rank: u16) -> Result<String, AllocError>
+    pub(crate) fn path_of(&self, rank: u16) -> Result<String, AllocError>
         ensures { IfOk result (λ path. string_bytes path ≡ journal_path self.now.path.now rank) }
     {
         let folder = self.path;

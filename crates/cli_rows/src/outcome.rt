@@ -8,6 +8,7 @@ use cli::argv::{WordsFault, run};
 use cli::capacity::Capacity;
 use cli::command_line::{CommandLine, parse};
 use cli::fault::Fault;
+use cli::shown::Screen;
 use mpicall::fails_at::FailsAt;
 use mpicall::memory::MemoryOutput;
 use std::alloc::{AllocError, Global};
@@ -15,6 +16,7 @@ use std::io;
 use std::process::{ExitCode, Termination};
 use std::sync::Wait;
 use std::thread::Threads;
+use std::time::Clock;
 
 /// What was answered.
 #[derive(Drop)]
@@ -22,6 +24,8 @@ pub struct Answer {
     pub code: ExitCode,
     pub out: Vec<u8>,
     pub err: Vec<u8>,
+    /// What shows how far a check is.
+    pub shown: Vec<u8>,
 }
 
 impl Answer {
@@ -35,7 +39,13 @@ impl Answer {
             (none, text)
         };
         let code = ExitCode::from(status);
-        Ok(Answer { code, out, err })
+        let shown = Vec::new(alloc);
+        Ok(Answer {
+            code,
+            out,
+            err,
+            shown,
+        })
     }
 
     /// Whether this is what the row wants.
@@ -46,6 +56,7 @@ impl Answer {
         self.code == ExitCode::from(status)
             && is_text(wanted, &wanted.err, &self.err)
             && is_output(wanted, &self.out)
+            && is_shown(wanted, &self.shown)
     }
 }
 
@@ -70,6 +81,15 @@ fn is_output(wanted: &Wanted, told: &[u8]) -> bool {
     wanted.parts.iter().all(|part| told.contains(part.as_str()))
 }
 
+/// Whether what shows how far a check is has the wanted parts, and is empty where none is wanted.
+fn is_shown(wanted: &Wanted, shown: &[u8]) -> bool {
+    let Ok(text) = str::from_utf8(shown) else {
+        return false;
+    };
+    wanted.shown.is_empty() == text.is_empty()
+        && wanted.shown.iter().all(|part| text.contains(part.as_str()))
+}
+
 /// An output that takes at most so many bytes a write, and one at least.
 fn output_of(alloc: Global, most: usize) -> MemoryOutput {
     if most > 0 {
@@ -80,7 +100,7 @@ fn output_of(alloc: Global, most: usize) -> MemoryOutput {
 }
 
 /// What the program answers on the words and files of a row.
-fn answer_of_program<R: AllocGlobal + Eprint + Threads + Wait + Sync>(
+fn answer_of_program<R: AllocGlobal + Eprint + Threads + Wait + Clock + Sync>(
     rt: &R,
     row: &Row,
 ) -> Result<Answer, AllocError> {
@@ -93,12 +113,18 @@ fn answer_of_program<R: AllocGlobal + Eprint + Threads + Wait + Sync>(
     let shelf = RowFiles {
         row,
         meeting: &meeting,
+        clock: rt,
     };
-    let ended = run(&given, &shelf, rt, &mut out, &mut err);
+    let mut screen = Screen {
+        out: FailsAt::new(MemoryOutput::new(rt.alloc()), devices.failing_screen),
+        is_terminal: devices.is_terminal,
+    };
+    let ended = run(&given, &shelf, rt, &mut out, &mut err, &mut screen);
     Ok(Answer {
         code: ended.report(rt),
         out: out.device().bytes().to_vec(rt.alloc())?,
         err: err.device().bytes().to_vec(rt.alloc())?,
+        shown: screen.out.device().bytes().to_vec(rt.alloc())?,
     })
 }
 
@@ -168,7 +194,7 @@ fn texts<'a>(alloc: Global, words: &'a [Vec<u8>]) -> Result<Vec<&'a str>, AllocE
 }
 
 /// What is answered to a row.
-pub fn answer_of<R: AllocGlobal + Eprint + Threads + Wait + Sync>(
+pub fn answer_of<R: AllocGlobal + Eprint + Threads + Wait + Clock + Sync>(
     rt: &R,
     row: &Row,
 ) -> Result<Answer, AllocError> {

@@ -16,6 +16,7 @@ use mpicall::memory::{MemoryInput, MemoryOutput};
 use mpicall::source::Source;
 use mpigroup::head::Head;
 use pairing::fault::CallFault;
+use progress::tracker::Untracked;
 use report::write::Format;
 use std::alloc::{AllocError, Global};
 use std::process::Abort;
@@ -82,6 +83,7 @@ where
         gate,
         format,
         &mut out,
+        &Untracked,
         rt,
         by,
     );
