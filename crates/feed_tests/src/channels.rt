@@ -78,25 +78,20 @@ fn ended(feed: Feed, fault: Option<SourceFault>, wait: &impl Wait) -> Option<Rec
     }
 }
 
-/// Takes, if that is asked for.
-fn take_if(taker: &mut Taker, is_asked: bool, wait: &impl Wait) -> char
+/// What a take gives.
+fn take(taker: &mut Taker, wait: &impl Wait) -> char
     ensures { SameTaker taker.old taker.new }
 {
-    if is_asked {
-        letter_taken(taker.try_take(wait))
-    } else {
-        '-'
-    }
+    letter_taken(taker.try_take(wait))
 }
 
 /// Puts the records of two letters, or of as many as there are, ends the feed with the fault or by a seal, takes
-/// once if that is asked for, and has the taker meet the receipt. Tells what was taken, how many items are left by
-/// the receipt, and what three takes give.
+/// once, and has the taker meet the receipt. Tells what was taken, how many items are left by the receipt, and
+/// what three takes give.
 pub(crate) fn left(
     alloc: Global,
     letters: &str,
     fault: Option<SourceFault>,
-    takes_one: bool,
     wait: &impl Wait,
 ) -> Result<Option<(char, usize, [char; 3])>, AllocError> {
     let mut letters = letters.chars();
@@ -106,12 +101,12 @@ pub(crate) fn left(
     let Some(receipt) = ended(feed, fault, wait) else {
         return Ok(None);
     };
-    let taken = take_if(&mut taker, takes_one, wait);
+    let taken = take(&mut taker, wait);
     let count = taker.meet(receipt, wait).count;
     let behind = [
-        take_if(&mut taker, true, wait),
-        take_if(&mut taker, true, wait),
-        take_if(&mut taker, true, wait),
+        take(&mut taker, wait),
+        take(&mut taker, wait),
+        take(&mut taker, wait),
     ];
     Ok(are_put.then_some((taken, count, behind)))
 }

@@ -199,36 +199,27 @@ pub(crate) fn by_threads<P: Puts, T: Takes, R: Threads + Wait + Sync>(
 }
 
 #[test]
-fn a_feed_of_two_places(rt: HostRuntime) -> Result<(), Fail> {
-    let steps = "t- b+ b+ bF tb dn f+ dy fC BC";
-    assert!(rt; rings::play(rt.alloc(), steps, &rt)? & channels::play(rt.alloc(), steps, &rt)?);
+fn steps_of_a_feed_of_two_places(rt: HostRuntime) -> Result<(), Fail> {
+    for steps in [
+        "t- b+ b+ bF tb dn f+ dy fC BC",
+        "m+ dn o+ dy oC fC MC dy tm to",
+    ] {
+        let is_so = rings::play(rt.alloc(), steps, &rt)? & channels::play(rt.alloc(), steps, &rt)?;
+        assert!(rt; is_so, "{steps}");
+    }
     Ok(())
 }
 
 #[test]
-fn an_open_ends_a_feed_as_a_finalize_does(rt: HostRuntime) -> Result<(), Fail> {
-    let steps = "m+ dn o+ dy oC fC MC dy tm to";
-    assert!(rt; rings::play(rt.alloc(), steps, &rt)? & channels::play(rt.alloc(), steps, &rt)?);
-    let wanted = Some(('-', 3, ['m', 'o', '.']));
-    assert!(rt; rings::left(rt.alloc(), "mo", None, false)? == wanted);
-    assert!(rt; channels::left(rt.alloc(), "mo", None, false, &rt)? == wanted);
-    Ok(())
-}
-
-#[test]
-fn a_receipt_tells_what_is_left(rt: HostRuntime) -> Result<(), Fail> {
-    let wanted = Some(('s', 2, ['f', '.', '.']));
-    assert!(rt; rings::left(rt.alloc(), "sf", None, true)? == wanted);
-    assert!(rt; channels::left(rt.alloc(), "sf", None, true, &rt)? == wanted);
-    Ok(())
-}
-
-#[test]
-fn a_torn_feed_and_ends_that_are_dropped(rt: HostRuntime) -> Result<(), Fail> {
-    let fault = Some(SourceFault::ReadFailed);
-    let wanted = Some(('x', 0, ['x', 'x', 'x']));
-    assert!(rt; rings::left(rt.alloc(), "", fault, true)? == wanted);
-    assert!(rt; channels::left(rt.alloc(), "", fault, true, &rt)? == wanted);
+fn what_is_left_behind_an_end(rt: HostRuntime) -> Result<(), Fail> {
+    let failed = Some(SourceFault::ReadFailed);
+    for (letters, fault, wanted) in [
+        ("mo", None, ('m', 2, ['o', '.', '.'])),
+        ("", failed, ('x', 0, ['x', 'x', 'x'])),
+    ] {
+        assert!(rt; rings::left(rt.alloc(), letters, fault)? == Some(wanted));
+        assert!(rt; channels::left(rt.alloc(), letters, fault, &rt)? == Some(wanted));
+    }
     assert!(rt; rings::is_lost(rt.alloc())? & channels::is_lost(rt.alloc(), &rt)?);
     Ok(())
 }

@@ -9,16 +9,8 @@ mod channels;
 #[cfg(test)]
 mod feeds;
 #[cfg(test)]
-mod journal_faults;
-#[cfg(test)]
-mod journal_texts;
-#[cfg(test)]
 mod linked_lists;
 #[cfg(test)]
-mod ranges;
-#[cfg(test)]
 mod rings;
-#[cfg(test)]
-mod sources;
 #[cfg(test)]
 mod std_devices;

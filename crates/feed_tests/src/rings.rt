@@ -76,25 +76,20 @@ fn ended(feed: Feed, fault: Option<SourceFault>) -> Option<Receipt>
     }
 }
 
-/// Takes, if that is asked for.
-fn take_if(taker: &mut Taker, is_asked: bool) -> char
+/// What a take gives.
+fn take(taker: &mut Taker) -> char
     ensures { taker_ring taker.new ≡ taker_ring taker.old }
 {
-    if is_asked {
-        letter_taken(taker.try_take())
-    } else {
-        '-'
-    }
+    letter_taken(taker.try_take())
 }
 
 /// Puts the records of two letters, or of as many as there are, ends the feed with the fault or by a seal, takes
-/// once if that is asked for, and has the taker meet the receipt. Tells what was taken, how many items are left by
-/// the receipt, and what three takes give.
+/// once, and has the taker meet the receipt. Tells what was taken, how many items are left by the receipt, and
+/// what three takes give.
 pub(crate) fn left(
     alloc: Global,
     letters: &str,
     fault: Option<SourceFault>,
-    takes_one: bool,
 ) -> Result<Option<(char, usize, [char; 3])>, AllocError> {
     let mut letters = letters.chars();
     let (first, second) = (letters.next(), letters.next());
@@ -103,13 +98,9 @@ pub(crate) fn left(
     let Some(receipt) = ended(feed, fault) else {
         return Ok(None);
     };
-    let taken = take_if(&mut taker, takes_one);
+    let taken = take(&mut taker);
     let count = taker.meet(receipt).count;
-    let behind = [
-        take_if(&mut taker, true),
-        take_if(&mut taker, true),
-        take_if(&mut taker, true),
-    ];
+    let behind = [take(&mut taker), take(&mut taker), take(&mut taker)];
     Ok(are_put.then_some((taken, count, behind)))
 }
 

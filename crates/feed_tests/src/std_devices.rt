@@ -1,12 +1,40 @@
-use crate::sources::{TRACE, gives, is_second_read};
+use mpicall::call::{Call, Peer};
 use mpicall::counted::Counted;
 use mpicall::device::{DeviceFault, Input, Output};
 use mpicall::fault::SourceFault;
+use mpicall::line::read_line;
 use mpicall::record::Record;
 use mpicall::source::Source;
 use mpicall::spelling::write_line;
 use std::alloc::Global;
 use std::io;
+
+/// A trace. What `read_line` makes of its first and last line is tried by rows of `api_rows`.
+const TRACE: &str = "send 0 1 5\nrecv 255 63 2147483647\nfinalize\n";
+
+/// Whether its second line is read as it should be.
+fn is_second_read() -> bool {
+    let call = Call::Recv {
+        comm: 255,
+        source: Peer::Rank(63),
+        tag: 2147483647,
+    };
+    read_line(b"recv 255 63 2147483647\n").ok() == Record::new(call)
+}
+
+/// Whether a source gives the calls of these lines, and then this end, twice.
+fn gives<I: Input>(
+    source: &mut Source<I>,
+    lines: &str,
+    end: Result<Option<Record>, SourceFault>,
+) -> bool {
+    let mut is_so = true;
+    for line in lines.split_inclusive('\n') {
+        let call = read_line(line.as_bytes()).ok();
+        is_so &= (source.next() == Ok(call)) & call.is_some();
+    }
+    is_so & (source.next() == end) & (source.next() == end)
+}
 
 /// A reader that gives so many bytes a read, and fails at one call.
 #[derive(Drop)]
