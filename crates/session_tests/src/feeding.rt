@@ -1,6 +1,6 @@
 use crate::whole_runs::StopsAt;
 use gather::feed::feed;
-use gather::gate::{Gate, OpenGate};
+use gather::gate::Gate;
 use mpicall::fault::SourceFault;
 use mpicall::line::read_line;
 use mpicall::memory::MemoryInput;
@@ -44,27 +44,16 @@ fn record(rt: &impl Abort, line: &[u8]) -> Took {
     Took::Record(read_line(line).expect(rt, "a record's line"))
 }
 
+// A question comes before each call of the source, and one that is answered no ends the feed.
 #[test]
-fn all_records_and_the_end(rt: HostRuntime) -> Result<(), Fail> {
-    let took = taken(rt.alloc(), &OpenGate, &rt)?;
-    assert!(rt; took[0] == record(&rt, b"send 0 1 5\n") && took[1] == record(&rt, b"recv 0 1 5\n"));
-    assert!(rt; took[2] == record(&rt, b"finalize\n") && took[3] == Took::Sealed);
-    Ok(())
-}
-
-#[test]
-fn a_gate_that_closes_behind_one_record(rt: HostRuntime) -> Result<(), Fail> {
-    let took = taken(rt.alloc(), &StopsAt(7, 1), &rt)?;
-    assert!(rt; took[0] == record(&rt, b"send 0 1 5\n"));
-    assert!(rt; took[1] == Took::Torn(SourceFault::GateStopped));
-    Ok(())
-}
-
-#[test]
-fn a_question_before_each_call_of_the_source(rt: HostRuntime) -> Result<(), Fail> {
+fn a_gate_is_asked_before_each_call_of_the_source(rt: HostRuntime) -> Result<(), Fail> {
+    let send = record(&rt, b"send 0 1 5\n");
     let gate = Digits(Cell::new(0));
     let took = taken(rt.alloc(), &gate, &rt)?;
-    assert!(rt; took[3] == Took::Sealed);
+    assert!(rt; took[0] == send && took[1] == record(&rt, b"recv 0 1 5\n"));
+    assert!(rt; took[2] == record(&rt, b"finalize\n") && took[3] == Took::Sealed);
     assert!(rt; gate.0.get() == 70_717_273);
+    let took = taken(rt.alloc(), &StopsAt(7, 1), &rt)?;
+    assert!(rt; took[0] == send && took[1] == Took::Torn(SourceFault::GateStopped));
     Ok(())
 }

