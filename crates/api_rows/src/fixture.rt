@@ -4,15 +4,13 @@ use crate::answer::Answer;
 use crate::chains::{set_lists, take_of_lists, tell_list};
 use crate::fault::Fault;
 use crate::fields::tell_sized;
-use crate::groups::{tell_requests, tell_split};
-use crate::mixes::tell_mixes;
+use crate::groups::tell_split;
 use crate::numbers::{Calls, tell_numbers};
 use crate::pairs::{add, tell_partner, told};
 use crate::readings::{reading_in, tell_held_back};
 use crate::runs::{begin, offer, offer_of_all, tell_stands};
 use crate::texts::{
-    add_text, tell_call, tell_fault, tell_fronts, tell_head, tell_line, tell_records, tell_text,
-    tell_trace,
+    add_text, tell_call, tell_fronts, tell_head, tell_line, tell_records, tell_text, tell_trace,
 };
 use crate::waits::{question_in, tell_findings, tell_of_waits};
 use crate::words::{Numbers, first_word, number_in, numbers_in, short};
@@ -206,7 +204,6 @@ impl Fixture {
             "values" => tell_call(answer, rest),
             "split" => tell_split(answer, rest),
             "sized" => tell_sized(answer, rest),
-            "mixes" => tell_mixes(answer, &self.head, &self.run, rest),
             "heldback" => tell_held_back(answer, &self.head, &self.run, rest),
             "partner" => tell_partner(answer, &self.pairs, rest),
             _ => return self.tell_of_graph(answer, word, rest),
@@ -243,8 +240,6 @@ impl Fixture {
     fn tell_of_one(&self, answer: &mut Answer, asked: &str, number: u32) -> bool {
         match asked {
             "gives" => tell_records(answer, &self.text, number),
-            "fault" => tell_fault(answer, number),
-            "requests" => tell_requests(answer, number),
             "list" => tell_list(answer, &self.lists, number),
             _ => return false,
         }

@@ -1,13 +1,12 @@
-//! What is answered of the groups of splits, and of lists of requests.
+//! What is answered of the groups of splits.
 
 use crate::answer::Answer;
 use crate::fault::Fault;
 use crate::words::{first_word, number_in};
-use mpicall::reqs::Reqs;
 use mpigroup::split::split_groups;
 use std::alloc::Global;
 
-/// The most members and requests that a line may ask for.
+/// The most members that a line may ask for.
 const MOST: usize = 1000;
 
 /// The colour and the key of a member.
@@ -54,21 +53,5 @@ pub fn tell_split(answer: &mut Answer, text: &str) {
     match choices_in(answer.alloc(), text) {
         Ok(choices) => tell_groups(answer, &choices),
         Err(fault) => answer.fail(fault),
-    }
-}
-
-/// The list of so many requests, each numbered 1.
-pub fn tell_requests(answer: &mut Answer, count: u32) {
-    let ones = [1u32; MOST];
-    match ones.get(..count as usize) {
-        Some(numbers) => tell_reqs(answer, numbers),
-        None => answer.fail(Fault::Unread),
-    }
-}
-
-fn tell_reqs(answer: &mut Answer, numbers: &[u32]) {
-    if let Some(reqs) = Reqs::new(numbers) {
-        let is_same = reqs.as_slice() == numbers;
-        answer.put(if is_same { "all" } else { "others" });
     }
 }

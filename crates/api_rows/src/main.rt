@@ -22,8 +22,7 @@
 //!   by the first, which is to be no laxer than the second, over the calls that were offered
 //! - of the analyser: `stands -> N N ..`, `closed -> yes|no`, `ended RANK -> yes|no`,
 //!   `accepted RANK -> N`, `record RANK PLACE -> LINE`, `joins RANK PLACE -> COMM WAVE`, `touches LEAST MOST ->
-//!   within`; `mixes CALLS -> N mixes, N N ..`: in how many orders the ranks' lists may come, and where the ranks
-//!   stand after them, which is answered once if it is alike after all
+//!   within`
 //! - of the pairs: `added RANK -> N`, `over RANK -> yes|no`, `call RANK PLACE -> LINE`, `partner RANK PLACE
 //!   send|recv -> RANK PLACE`, `wave RANK PLACE -> COMM WAVE`, `member COMM WAVE MEMBER -> PLACE`, `started RANK
 //!   PLACE REQ -> PLACE`, `completed RANK PLACE INDEX -> PLACE`, `probed RANK PLACE -> RANK PLACE`, `work -> N`,
@@ -47,8 +46,7 @@
 //! - `astrace -> N calls`, or `call N CODE WORDS`; `fronts N M` the same of the first N to M bytes; `gives N -> LINE
 //!   / end / end`: what a source gives when it is asked N times. Each is asked of inputs that give 1, 2, 7, 1000 or
 //!   all bytes a read, and answered once if all agree
-//! - `fault N -> CODE WORDS` of a source, numbered from 0; `requests N -> all|none`: whether a wait may name so many;
-//!   `split COLOUR KEY / undefined KEY .. -> RANK RANK .. / RANK ..`: the groups of a split
+//! - `split COLOUR KEY / undefined KEY .. -> RANK RANK .. / RANK ..`: the groups of a split
 //!
 //! Lists of numbers in an arena, which a row has none of at first.
 //!
@@ -65,7 +63,6 @@ mod fault;
 mod fields;
 mod fixture;
 mod groups;
-mod mixes;
 mod numbers;
 mod pairs;
 mod readings;

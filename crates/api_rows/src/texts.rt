@@ -6,7 +6,6 @@ use crate::answer::Answer;
 use crate::calls::bytes_of;
 use crate::fault::Fault;
 use crate::fields::tell_values;
-use mpicall::fault::{LineFault, SourceFault};
 use mpicall::line::read_line;
 use mpicall::lint::lint;
 use mpicall::memory::{MemoryInput, MemoryOutput};
@@ -86,30 +85,6 @@ fn tell_values_in(answer: &mut Answer, line: &[u8]) {
     match read_line(line) {
         Ok(record) if is_written(answer, &record, line) => tell_values(answer, record.as_call()),
         _ => answer.fail(Fault::Unread),
-    }
-}
-
-/// The faults of a source, numbered from 0.
-const FAULTS: [SourceFault; 12] = [
-    SourceFault::Line(LineFault::EmptyField),
-    SourceFault::Line(LineFault::UnknownWord),
-    SourceFault::Line(LineFault::FieldCount),
-    SourceFault::Line(LineFault::FieldForm),
-    SourceFault::Line(LineFault::Wildcard),
-    SourceFault::Line(LineFault::TooLong),
-    SourceFault::Line(LineFault::NoLineFeed),
-    SourceFault::TextAfterFinalize,
-    SourceFault::NoFinalize,
-    SourceFault::ReadFailed,
-    SourceFault::GateStopped,
-    SourceFault::ThreadNotStarted,
-];
-
-/// The code and words of a fault of a source.
-pub fn tell_fault(answer: &mut Answer, number: u32) {
-    match FAULTS.get(number as usize) {
-        Some(fault) => answer.coded(fault.code(), fault),
-        None => answer.fail(Fault::Missing),
     }
 }
 
