@@ -14,6 +14,7 @@
 //! file PATH              a file, with the text that follows:
 //! | TEXT                 a line of it
 //! . TEXT                 a piece of it without a line feed
+//! zero TEXT              a zero byte, and a piece without a line feed after it; no text is needed
 //! many N TEXT            a line N times
 //! repeat N TEXT          a piece without a line feed, N times
 //! counts N TEXT          a line N times, with a blank and its number after it, from 1

@@ -304,6 +304,7 @@ impl RowParser {
             "file" => self.add_file(alloc, rest)?,
             "|" => self.add(rest, "\n")?,
             "." => self.add(rest, "")?,
+            "zero" => self.add("\0", rest)?,
             "many" => self.add_many(rest, "\n")?,
             "repeat" => self.add_many(rest, "")?,
             "counts" => self.add_counted(alloc, rest)?,
