@@ -21,9 +21,9 @@ use Rattle.cli.specs.CommandLine.{Answers, CheckRun, Task, closing_of, judging_o
 use Rattle.cli.specs.inner.CommandLine.{Names, Says, SaysError}
 
 pub said_where_none : (task : Option Task) (text : Text) (said : CommandLine) → task ≡ None → Says text true said → Names task said
-said_where_none task text (Check head files options) none says = absurd says
+said_where_none task text (Check head files options progress) none says = absurd says
 said_where_none task text (Lint file) none says = absurd says
-said_where_none task text (Judge folder manner) none says = absurd says
+said_where_none task text (Judge folder manner progress) none says = absurd says
 said_where_none task text (Close folder out choice) none says = absurd says
 said_where_none task text (Said told is_told) none says = (none, says.1)
 said_where_none task text NoMemory none says = tt
@@ -88,18 +88,18 @@ program_is_free = refl
 
 pub answers_named : (words : List Text) (found : Option (Text × List Row)) (asked : CommandLine) → found ≡ subcommand_of program words → fault_of program words ≡ [] → Names (option_and_then (λ rows. task_of rows.0 rows.1) found) asked → Answers words asked
 unfolding task_in
-answers_named words found (Check head files options) is taken names = (taken, sym (ap (option_and_then (λ (rows : Text × List Row). task_of rows.0 rows.1)) is) ∙ names)
+answers_named words found (Check head files options progress) is taken names = (taken, sym (ap (option_and_then (λ (rows : Text × List Row). task_of rows.0 rows.1)) is) ∙ names)
 answers_named words found (Lint file) is taken names = (taken, sym (ap (option_and_then (λ (rows : Text × List Row). task_of rows.0 rows.1)) is) ∙ names)
-answers_named words found (Judge folder manner) is taken names = (taken, sym (ap (option_and_then (λ (rows : Text × List Row). task_of rows.0 rows.1)) is) ∙ names)
+answers_named words found (Judge folder manner progress) is taken names = (taken, sym (ap (option_and_then (λ (rows : Text × List Row). task_of rows.0 rows.1)) is) ∙ names)
 answers_named words found (Close folder out choice) is taken names = (taken, sym (ap (option_and_then (λ (rows : Text × List Row). task_of rows.0 rows.1)) is) ∙ names)
 answers_named words found (Said text false) is taken names = let e : false ≡ true = names.1 in cc
 answers_named words found (Said text true) is taken names = inr (taken, sym (ap (option_and_then (λ (rows : Text × List Row). task_of rows.0 rows.1)) is) ∙ names.0)
 answers_named words found NoMemory is taken names = tt
 
 pub answers_error : (words : List Text) (error : Error) (asked : CommandLine) → HasKind (fault_of program words) error → SaysError (kind_of error) asked → (kind_of error ≡ OutOfMemory → asked ≡ NoMemory) → Answers words asked
-answers_error words error (Check head files options) has says memory = absurd says
+answers_error words error (Check head files options progress) has says memory = absurd says
 answers_error words error (Lint file) has says memory = absurd says
-answers_error words error (Judge folder manner) has says memory = absurd says
+answers_error words error (Judge folder manner progress) has says memory = absurd says
 answers_error words error (Close folder out choice) has says memory = absurd says
 answers_error words error (Said text false) has says memory = elim has [
   | inl out ↦ let e : Said text false ≡ NoMemory = memory out in cc

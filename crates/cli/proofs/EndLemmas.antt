@@ -25,9 +25,9 @@ tells_line ended fault out err wants left tried = absurd wants
 
 -- where memory is wanted for a fault's line, that may be told of the same words
 memory_may_be : (told : Text → Option Text) (named : Text → Option Bool) (asked : CommandLine) (fault : Fault) → IsFaultOf told named asked fault → fault ≢ Write → IsFaultOf told named asked Memory
-memory_may_be told named (Check head files options) fault is_fault other = tt
+memory_may_be told named (Check head files options progress) fault is_fault other = tt
 memory_may_be told named (Lint file) fault is_fault other = tt
-memory_may_be told named (Judge folder manner) fault is_fault other = tt
+memory_may_be told named (Judge folder manner progress) fault is_fault other = tt
 memory_may_be told named (Close folder out choice) fault is_fault other = tt
 memory_may_be told named (Said text is_error) fault is_fault other = absurd (other is_fault.0)
 memory_may_be told named NoMemory fault is_fault other = refl

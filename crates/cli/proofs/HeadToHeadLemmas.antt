@@ -223,16 +223,16 @@ module _ (told : Text → Option Text) (named : Text → Option Bool) (is_head :
         }
 
     of_asked : (asked : CommandLine) (out err : Written) → Answers words asked → EndsBy told named asked ended out err → Becomes written failures old new out → Becomes written_errors failed_errors old_errors new_errors err → ended ≢ status.Fault → Hangs written failures old new old_errors new_errors ended
-    of_asked (Check path files its) out err answers (inl done) output errors other =
+    of_asked (Check path files its progress) out err answers (inl done) output errors other =
         let e : Some (CheckRun path.now (map (λ file. file.now) files.items) its) ≡ Some task = sym answers.1 ∙ asks in
         of_report path.now files.items its out err (ap head_in e) (ap files_in e) (ap options_in e) done output errors
-    of_asked (Check path files its) out err answers (inr (fault, is_fault, ends)) output errors other =
+    of_asked (Check path files its progress) out err answers (inr (fault, is_fault, ends)) output errors other =
         let e : Some (CheckRun path.now (map (λ file. file.now) files.items) its) ≡ Some task = sym answers.1 ∙ asks in
         absurd (no_fault_told path.now files.items fault (ap head_in e) (ap files_in e) is_fault (λ same. other (ends.0 ∙ same)))
     of_asked (Lint file) out err answers by output errors other =
         let e : Some (LintTrace file.now) ≡ Some task = sym answers.1 ∙ asks in
         let no : false ≡ true = ap is_check e in cc
-    of_asked (Judge folder manner) out err answers by output errors other =
+    of_asked (Judge folder manner progress) out err answers by output errors other =
         let e : Some (JudgeJournals folder.now manner) ≡ Some task = sym answers.1 ∙ asks in
         let no : false ≡ true = ap is_check e in cc
     of_asked (Close folder target choice) out err answers by output errors other =

@@ -11,7 +11,7 @@ use Rattle.judging.specs.declared.judge.Manner.{Manner}
 use Rattle.moves.specs.declared.reading.Reading.{Reading}
 use Rattle.report.specs.declared.write.Format.{Format}
 use Rattle.cli.specs.Limits.{reading_in}
-use Rattle.cli.specs.Options.{json_rule, eager_rule, format_of}
+use Rattle.cli.specs.Options.{json_rule, eager_rule, progress_rule, format_of}
 
 -- options with a word, which is this one where it isn't given
 abbrev pub tests_rule : Rule
@@ -33,7 +33,7 @@ abbrev pub choice_rules : List Rule
 choice_rules = tests_rule ∷ calls_rule ∷ []
 
 abbrev pub manner_rules : List Rule
-manner_rules = json_rule ∷ eager_rule ∷ choice_rules
+manner_rules = json_rule ∷ eager_rule ∷ progress_rule ∷ choice_rules
 
 abbrev pub tests_in : Text → Option Tests
 tests_in word = if bytes_eq word (codes "wait") then Some Wait else (if bytes_eq word (codes "pass") then Some Pass else None)

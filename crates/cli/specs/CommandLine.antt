@@ -144,9 +144,9 @@ SaysRightly words false = AsksForText words
 
 -- the answer has the task for which the words ask, or a text where they ask for none
 abbrev pub Answers : List Text → CommandLine → Type 0
-Answers words (Check head files options) = Asks words (CheckRun head.now (map (λ file. file.now) files.items) options)
+Answers words (Check head files options progress) = Asks words (CheckRun head.now (map (λ file. file.now) files.items) options)
 Answers words (Lint file) = Asks words (LintTrace file.now)
-Answers words (Judge folder manner) = Asks words (JudgeJournals folder.now manner)
+Answers words (Judge folder manner progress) = Asks words (JudgeJournals folder.now manner)
 Answers words (Close folder out choice) = Asks words (CloseJournals folder.now out.now choice)
 Answers words (Said text is_error) = SaysRightly words is_error
 Answers words NoMemory = Unit {0}

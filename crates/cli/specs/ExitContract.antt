@@ -89,9 +89,9 @@ EndsInFault fault status out err = (status ≡ status_of_fault fault) × TellsLi
 
 -- what the words ask for was done, and reported
 abbrev pub IsDone : (Text → Option Text) → (Text → Option Bool) → CommandLine → Status → Written → Written → Type 0
-IsDone told named (Check head files options) = EndsInReport options (told head.now) (map (λ file. told file.now) files.items)
+IsDone told named (Check head files options progress) = EndsInReport options (told head.now) (map (λ file. told file.now) files.items)
 IsDone told named (Lint file) = EndsInCount (told file.now)
-IsDone told named (Judge folder manner) = EndsInJudged (known_in told named folder.now) manner
+IsDone told named (Judge folder manner progress) = EndsInJudged (known_in told named folder.now) manner
 IsDone told named (Close folder out choice) = EndsInFiles
 IsDone told named (Said text false) = EndsInText (string_bytes text)
 IsDone told named (Said text true) = EndsInUsage (string_bytes text)
@@ -99,9 +99,9 @@ IsDone told named NoMemory = λ status out err. ⊥
 
 -- the faults with which that may end
 abbrev pub IsFaultOf : (Text → Option Text) → (Text → Option Bool) → CommandLine → FaultOf → Type 0
-IsFaultOf told named (Check head files options) fault = IsFaultOfCheck told head.now files.items fault
+IsFaultOf told named (Check head files options progress) fault = IsFaultOfCheck told head.now files.items fault
 IsFaultOf told named (Lint file) fault = IsFaultOfLint told file.now fault
-IsFaultOf told named (Judge folder manner) fault = IsFaultOfJudge (known_in told named folder.now) folder.now fault
+IsFaultOf told named (Judge folder manner progress) fault = IsFaultOfJudge (known_in told named folder.now) folder.now fault
 IsFaultOf told named (Close folder out choice) fault = IsFaultOfClose (known_in told named folder.now) folder.now out.now fault
 IsFaultOf told named (Said text is_error) fault = (fault ≡ Write) × (is_error ≡ false)
 IsFaultOf told named NoMemory fault = fault ≡ Memory

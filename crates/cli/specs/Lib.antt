@@ -4,6 +4,7 @@ pub mod Limits
 pub mod Options
 pub mod Choices
 pub mod CommandLine
+pub mod Shown
 pub mod Statuses
 pub mod Faults
 pub mod FaultTexts

@@ -35,9 +35,16 @@ eager_rule = record (new_rule (codes "eager")) {
   parser = Some limit_parser;
 }
 
+-- a flag for a check that is shown
+abbrev pub progress_rule : Rule
+progress_rule = record (new_rule (codes "progress")) {
+  long = Some (codes "progress");
+  action = Some SetTrue;
+}
+
 -- all options
 abbrev pub option_rules : List Rule
-option_rules = json_rule ∷ capacity_rule ∷ eager_rule ∷ []
+option_rules = json_rule ∷ capacity_rule ∷ eager_rule ∷ progress_rule ∷ []
 
 -- JSON where the flag is noted as given, and else text
 abbrev pub format_of : Option Text → Format

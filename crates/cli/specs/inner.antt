@@ -5,3 +5,5 @@ pub mod Front
 pub mod Outputs
 pub mod Texts
 pub mod Journals
+pub mod Options
+pub mod Shown

@@ -12,6 +12,7 @@ ghost use Rattle.cli.specs.declared.argv.WordsFault.TheVariants.{NoMemory};
 use crate::folder::with_files;
 use crate::opener::{Maker, Opener};
 use crate::program::{program, write_error};
+use crate::shown::Screen;
 use crate::status::Status;
 use mpicall::device::Output;
 use std::alloc::{AllocError, Global};
@@ -19,6 +20,7 @@ use std::env::Env;
 use std::process::{ExitCode, Termination};
 use std::sync::Wait;
 use std::thread::Threads;
+use std::time::Clock;
 use std::{env, io};
 
 /// Why the words of the command line can't be read.
@@ -101,39 +103,50 @@ impl Termination for Ended {
 }
 
 /// The program on the words of the process.
-fn status_on<G, P, O, E, R>(
+fn status_on<G, P, O, E, L, R>(
     given: &G,
     opener: &P,
     rt: &R,
     out: &mut O,
     err: &mut E,
+    screen: &mut Screen<L>,
 ) -> Result<Status, WordsFault>
 where
     G: Env + AllocGlobal,
     P: Opener + Maker,
     O: Output,
     E: Output,
-    R: Threads + Wait + Sync,
+    L: Output + Send,
+    R: Threads + Wait + Clock + Sync,
     ensures ended { IfOk result (EndsBySome O.written O.failures E.written E.failures (P.told opener.now) (P.named opener.now) out.old out.new err.old err.new) }
     ensures untouched { OnErr result ((out.new ≡ out.old) × (err.new ≡ err.old)) }
 {
     let words = with_files(given.alloc(), opener, words_given(given)?)?;
     let texts = as_texts(given.alloc(), words.as_slice())?;
-    Ok(program(given.alloc(), texts.as_slice(), opener, rt, out, err))
+    let words = texts.as_slice();
+    Ok(program(given.alloc(), words, opener, rt, out, err, screen))
 }
 
 /// Runs the program on the words of the process, over the opener's files, and reports words that can't be
 /// read.
-pub fn run<G, P, O, E, R>(given: &G, opener: &P, rt: &R, out: &mut O, err: &mut E) -> Ended
+pub fn run<G, P, O, E, L, R>(
+    given: &G,
+    opener: &P,
+    rt: &R,
+    out: &mut O,
+    err: &mut E,
+    screen: &mut Screen<L>,
+) -> Ended
 where
     G: Env + AllocGlobal,
     P: Opener + Maker,
     O: Output,
     E: Output,
-    R: Threads + Wait + Sync,
+    L: Output + Send,
+    R: Threads + Wait + Clock + Sync,
     ensures { EndsGiven O.written O.failures E.written E.failures (P.told opener.now) (P.named opener.now) out.old out.new err.old err.new (status_in result) }
 {
-    let status = match status_on(given, opener, rt, out, err) {
+    let status = match status_on(given, opener, rt, out, err, screen) {
         Ok(status) => status,
         Err(fault) => {
             write_error(fault.text(), err);

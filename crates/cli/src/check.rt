@@ -20,6 +20,7 @@ use mpicall::device::{DeviceFault, Input, Output};
 use mpicall::source::Source;
 use mpigroup::fault::ReadFault;
 use mpigroup::head::{DECIDING_BYTES, Head};
+use progress::tracker::Tracker;
 use std::alloc::Global;
 use std::sync::Wait;
 use std::thread::Threads;
@@ -119,13 +120,15 @@ fn read_by<P: Opener>(opener: &P, paths: &[&str]) -> ReadBy
 }
 
 /// Checks a run, of which the paths of the head and of the traces in rank order are given, and writes its report. The
-/// traces are opened in rank order, once their number is known to be that of the ranks, and then read at once.
-pub fn check<'a, P: Opener, O: Output, R: Threads + Wait + Sync>(
+/// traces are opened in rank order, once their number is known to be that of the ranks, and then read at once. The
+/// tracker is handed the analyser meanwhile, and nothing depends on it.
+pub fn check<'a, P: Opener, O: Output, T: Tracker, R: Threads + Wait + Sync>(
     alloc: Global,
     head: &'a str,
     files: &[&'a str],
     options: Options,
     opener: &P,
+    tracker: &T,
     rt: &R,
     out: &mut O,
 ) -> Result<Verdict, Fault<'a>>
@@ -161,6 +164,7 @@ pub fn check<'a, P: Opener, O: Output, R: Threads + Wait + Sync>(
         &OpenGate,
         options.format,
         out,
+        tracker,
         rt,
         by,
     ) {

@@ -12,7 +12,7 @@ ghost use Rattle.cli.specs.inner.CommandLine.{Names, Says, SaysError};
 
 use crate::found::{text_of, texts_of};
 use crate::manner::{choice_arguments, choice_of, manner_arguments, manner_of};
-use crate::options::{Options, option_arguments, options_of};
+use crate::options::{Options, is_shown, option_arguments, options_of};
 use clap::error::ErrorKind;
 use clap::{Arg, ArgMatches, Command, Error};
 use closing::choice::Choice;
@@ -27,6 +27,8 @@ pub enum CommandLine<'a> {
         head: &'a str,
         files: Vec<&'a str>,
         options: Options,
+        /// Whether it is shown how far the check is.
+        progress: bool,
     },
     /// To read one trace alone, by its path.
     Lint {
@@ -36,6 +38,7 @@ pub enum CommandLine<'a> {
     Judge {
         folder: &'a str,
         manner: Manner,
+        progress: bool,
     },
     /// To write the recording of the journals in a folder into another one, which is made.
     Close {
@@ -293,6 +296,7 @@ fn run_named<'a>(
     head: Option<&'a str>,
     files: Option<&[&'a str]>,
     options: Option<Options>,
+    progress: bool,
 ) -> CommandLine<'a>
     ensures { Names (run_of (option_map (λ path. path.now) head.entry) (option_map (λ paths. map (λ path. path.now) paths.now) files.entry) options) result }
 {
@@ -313,6 +317,7 @@ fn run_named<'a>(
             head,
             files,
             options,
+            progress,
         },
         Err(_) => CommandLine::NoMemory,
     }
@@ -327,6 +332,7 @@ fn check_of<'a>(alloc: Global, matches: &ArgMatches<'a>) -> CommandLine<'a>
         text_of(matches, "HEAD"),
         texts_of(matches, "FILE"),
         options_of(matches),
+        is_shown(matches),
     )
 }
 
@@ -350,14 +356,23 @@ fn lint_of<'a>(alloc: Global, matches: &ArgMatches<'a>) -> CommandLine<'a>
 
 /// The journals in this folder, to be judged.
 #[tactic(auto, using(crate::proofs::AskedLemmas::asked_steps))]
-fn judging_of<'a>(alloc: Global, folder: Option<&'a str>, manner: Option<Manner>) -> CommandLine<'a>
+fn judging_of<'a>(
+    alloc: Global,
+    folder: Option<&'a str>,
+    manner: Option<Manner>,
+    progress: bool,
+) -> CommandLine<'a>
     ensures { Names (judging_of (option_map (λ path. path.now) folder.entry) manner) result }
 {
     let Some(folder) = folder else {
         return say(alloc, USAGE, true);
     };
     match manner {
-        Some(manner) => CommandLine::Judge { folder, manner },
+        Some(manner) => CommandLine::Judge {
+            folder,
+            manner,
+            progress,
+        },
         None => say(alloc, USAGE, true),
     }
 }
@@ -366,7 +381,12 @@ fn judging_of<'a>(alloc: Global, folder: Option<&'a str>, manner: Option<Manner>
 fn judge_of<'a>(alloc: Global, matches: &ArgMatches<'a>) -> CommandLine<'a>
     ensures { Names (judge_of (rows_of (found_of matches.now))) result }
 {
-    judging_of(alloc, text_of(matches, "FOLDER"), manner_of(matches))
+    judging_of(
+        alloc,
+        text_of(matches, "FOLDER"),
+        manner_of(matches),
+        is_shown(matches),
+    )
 }
 
 /// The journals in this folder, for whose recording that one is made.

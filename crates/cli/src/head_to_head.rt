@@ -6,15 +6,17 @@ ghost use Rattle.cli.specs.HeadToHead.{report};
 
 use crate::memory_files::{MemoryFile, MemoryFiles};
 use crate::program::program;
+use crate::shown::Screen;
 use crate::status::Status;
 use mpicall::memory::MemoryOutput;
 use std::alloc::Global;
 use std::sync::Wait;
 use std::thread::Threads;
+use std::time::Clock;
 
 /// Checks two ranks that send to each other before either receives. Unless that ends with a fault, as where memory runs
 /// out, it ends with `Hang` and leaves the report, and nothing on the output of errors.
-pub fn two_that_send_first<R: Threads + Wait + Sync>(
+pub fn two_that_send_first<R: Threads + Wait + Clock + Sync>(
     alloc: Global,
     rt: &R,
     out: &mut MemoryOutput,
@@ -40,5 +42,9 @@ pub fn two_that_send_first<R: Threads + Wait + Sync>(
     ];
     let shelf = MemoryFiles { files: &files };
     let words = ["check", "head", "r0", "r1"];
-    program(alloc, &words, &shelf, rt, out, err)
+    let mut screen = Screen {
+        out: MemoryOutput::new(alloc),
+        is_terminal: false,
+    };
+    program(alloc, &words, &shelf, rt, out, err, &mut screen)
 }

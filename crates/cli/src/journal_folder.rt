@@ -1,12 +1,17 @@
 //! The journals of a run in a folder, and the files of their recording.
 
-ghost use Rattle.std.specs.Prelude.{◌≡◌, string_bytes, None, IfOk};
+ghost use Rattle.std.specs.Prelude.{◌≡◌, string_bytes, None, IfErr, IfOk};
+ghost use Rattle.judging.specs.Closing.{IsFaultOfClose};
 ghost use Rattle.cli.specs.JournalFolders.{journal_path, known_in};
 
+use crate::measured::Measured;
 use crate::opener::{Maker, Opener};
-use judging::close::{FileName, Folder};
+use closing::choice::Choice;
+use judging::close::{CloseFault, FileName, Folder, close};
 use judging::read::Journals;
+use progress::gauge::Gauge;
 use std::alloc::{AllocError, Global};
+use std::sync::Wait;
 
 /// The journals in a folder: of each rank the file `journal` with its number.
 #[derive(Drop)]
@@ -28,7 +33,7 @@ impl<'p, 'a, P> JournalFolder<'p, 'a, P> {
         }
     }
 
-    fn path_of(&self, rank: u16) -> Result<String, AllocError>
+    pub(crate) fn path_of(&self, rank: u16) -> Result<String, AllocError>
         ensures { IfOk result (λ path. string_bytes path ≡ journal_path self.now.path.now rank) }
     {
         let folder = self.path;
@@ -53,6 +58,29 @@ impl<P: Opener> Journals for JournalFolder<'_, '_, P> {
         let path = self.path_of(rank)?;
         Ok(self.opener.open_input(path.as_str()))
     }
+}
+
+/// As `close`, of the journals in a folder. Each command reads files of one type, so that what reads their lines is
+/// compiled once, and inlined.
+pub(crate) fn close_folder<P: Opener, F: Folder>(
+    journals: &JournalFolder<'_, '_, P>,
+    choice: Choice,
+    made: &mut F,
+    wait: &impl Wait,
+) -> Result<(), CloseFault>
+    ensures fault { IfErr result (IsFaultOfClose (known_in (P.told journals.now.opener.now) (P.named journals.now.opener.now) journals.now.path.now)) }
+{
+    let gauge = Gauge::new();
+    let opener = Measured {
+        opener: journals.opener,
+        gauge: &gauge,
+    };
+    let measured = JournalFolder {
+        alloc: journals.alloc,
+        opener: &opener,
+        path: journals.path,
+    };
+    close(journals.alloc, &measured, choice, made, wait)
 }
 
 /// The folder of a recording: `head`, and of each rank `r` with its number.

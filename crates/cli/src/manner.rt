@@ -7,7 +7,7 @@ ghost use Rattle.cli.specs.Choices.{calls_in, calls_rule, choice_by, choice_of, 
 
 use crate::found::text_of;
 use crate::limit::read_reading;
-use crate::options::{eager_argument, format_of, json_argument};
+use crate::options::{eager_argument, format_of, json_argument, progress_argument};
 use clap::{Arg, ArgMatches};
 use closing::choice::{Calls, Choice, Tests};
 use judging::judge::Manner;
@@ -60,6 +60,7 @@ pub(crate) fn manner_arguments<'a>(alloc: Global) -> Result<Vec<Arg<'a>>, AllocE
     let arguments = vec![in alloc;
         json_argument(alloc),
         eager_argument(alloc),
+        progress_argument(alloc),
         tests_argument(alloc),
         calls_argument(alloc),
     ]?;

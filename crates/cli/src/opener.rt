@@ -32,6 +32,12 @@ pub trait Opener {
     fn waits(&self, path: &str) -> bool
         ensures { result ≡ false → never_waits self.now path.now };
 
+    /// How many bytes a file has; None where that isn't known. It is shown while files are read, and nothing of
+    /// what is said of them depends on it.
+    fn size(&self, _path: &str) -> Option<u64> {
+        None
+    }
+
     /// Whether the path names a folder. Without a word of its own an opener has none.
     fn is_folder(&self, _path: &str) -> bool {
         false
@@ -85,6 +91,13 @@ where
         match fs::metadata(self.0, path) {
             Ok(metadata) => !metadata.is_file(),
             Err(_) => true,
+        }
+    }
+
+    fn size(&self, path: &str) -> Option<u64> {
+        match fs::metadata(self.0, path) {
+            Ok(metadata) if metadata.is_file() => Some(metadata.len()),
+            _ => None,
         }
     }
 

@@ -4,7 +4,8 @@
 ghost use Rattle.std.specs.Prelude.{◌≡◌, false, All, IfOk, map, option_map};
 ghost use Rattle.clap.specs.Matches.{found_of};
 ghost use Rattle.clap.specs.Walk.{rows_of, rule_of};
-ghost use Rattle.cli.specs.Options.{capacity_of, capacity_rule, eager_rule, format_of, given, json_rule, option_rules, options_of};
+ghost use Rattle.cli.specs.Options.{capacity_of, capacity_rule, eager_rule, format_of, given, json_rule, option_rules, options_of, progress_rule};
+ghost use Rattle.cli.specs.inner.Options.{is_given, is_shown};
 
 use crate::capacity::{Capacity, LEAST, MOST};
 use crate::found::text_of;
@@ -63,6 +64,17 @@ pub(crate) fn eager_argument<'a>(alloc: Global) -> Arg<'a>
         .help("Takes standard sends of at most N recorded bytes as buffered, 0 to 2147483647")
 }
 
+/// The flag for a check to be shown.
+pub(crate) fn progress_argument<'a>(alloc: Global) -> Arg<'a>
+    ensures rule { rule_of result ≡ progress_rule }
+    ensures local { result.global ≡ false }
+{
+    Arg::new(alloc, "progress")
+        .long("progress")
+        .action(ArgAction::SetTrue)
+        .help("Shows on standard error how far it is, a line a second")
+}
+
 /// All options, in the order of the help.
 pub(crate) fn option_arguments<'a>(alloc: Global) -> Result<Vec<Arg<'a>>, AllocError>
     ensures rules { IfOk result (λ arguments. map rule_of arguments.items ≡ option_rules) }
@@ -72,6 +84,7 @@ pub(crate) fn option_arguments<'a>(alloc: Global) -> Result<Vec<Arg<'a>>, AllocE
         json_argument(alloc),
         capacity_argument(alloc),
         eager_argument(alloc),
+        progress_argument(alloc),
     ]?;
     Ok(arguments)
 }
@@ -107,6 +120,23 @@ fn given(reading: Option<Reading>, format: Format, capacity: Option<Capacity>) -
         format,
         capacity: capacity?,
     })
+}
+
+/// Whether a flag is given.
+fn is_given(flag: Option<&str>) -> bool
+    ensures { result ≡ is_given (option_map (λ value. value.now) flag.entry) }
+{
+    match flag {
+        Some(value) => value == "true",
+        None => false,
+    }
+}
+
+/// Whether it is to be shown how far the check is.
+pub(crate) fn is_shown(matches: &ArgMatches<'_>) -> bool
+    ensures { result ≡ is_shown (rows_of (found_of matches.now)) }
+{
+    is_given(text_of(matches, "progress"))
 }
 
 /// The options that were found.

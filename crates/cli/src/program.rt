@@ -13,21 +13,23 @@ ghost use Rattle.cli.specs.Outputs.{Tries};
 ghost use Rattle.cli.specs.Statuses.{status_of_verdict};
 ghost use Rattle.cli.specs.Texts.{IsFaultOfCheck};
 
-use crate::check::check;
 use crate::command_line::{CommandLine, parse};
 use crate::fault::Fault;
-use crate::journal_folder::{JournalFolder, RecordingFolder};
+use crate::journal_folder::{JournalFolder, RecordingFolder, close_folder};
 use crate::lint::lint_file;
 use crate::opener::{Maker, Opener};
 use crate::options::Options;
+use crate::shown::{Screen, check_shown, judge_shown};
 use crate::status::Status;
 use closing::choice::Choice;
-use judging::close::{CloseFault, close};
-use judging::judge::{JudgeFault, Manner, judge};
+use judging::close::CloseFault;
+use judging::judge::{JudgeFault, Manner};
 use mpicall::device::{Output, write_all};
+use progress::viewer::Manner as ShownBy;
 use std::alloc::Global;
 use std::sync::Wait;
 use std::thread::Threads;
+use std::time::Clock;
 use waitgraph::verdict::Verdict;
 
 /// What goes to standard error: what clap says of wrong words, or a fault.
@@ -76,7 +78,7 @@ fn refuse<'a, O: Output>(
 }
 
 /// Checks a run.
-fn answer_check<'a, P: Opener, O: Output, R: Threads + Wait + Sync>(
+fn answer_check<'a, P, O, L, R>(
     alloc: Global,
     head: &'a str,
     files: &[&'a str],
@@ -84,11 +86,18 @@ fn answer_check<'a, P: Opener, O: Output, R: Threads + Wait + Sync>(
     opener: &P,
     rt: &R,
     out: &mut O,
+    screen: &mut L,
+    shown: Option<ShownBy>,
 ) -> Result<Status, Complaint<'a>>
+where
+    P: Opener,
+    O: Output,
+    L: Output + Send,
+    R: Threads + Wait + Clock + Sync,
     ensures { let told = P.told opener.now in
         IsAnswered O.written O.failures (EndsInReport options (told head.now) (map (λ file. told file.now) files.now)) (IsFaultOfCheck told head.now files.now) out.old out.new result }
 {
-    match check(alloc, head, files, options, opener, rt, out) {
+    match check_shown(alloc, head, files, options, opener, rt, out, screen, shown) {
         Ok(verdict) => Ok(status_of(verdict)),
         Err(fault) => refuse(alloc, fault, out),
     }
@@ -126,16 +135,23 @@ fn fault_of_judge<'a>(folder: &'a str, fault: JudgeFault) -> Fault<'a>
 }
 
 /// Judges the journals in a folder.
-fn answer_judge<'a, P: Opener, O: Output>(
+fn answer_judge<'a, P, O, L, R>(
     journals: &JournalFolder<'_, 'a, P>,
     manner: Manner,
-    wait: &impl Wait,
+    rt: &R,
     out: &mut O,
+    screen: &mut L,
+    shown: Option<ShownBy>,
 ) -> Result<Status, Complaint<'a>>
+where
+    P: Opener,
+    O: Output,
+    L: Output + Send,
+    R: Threads + Wait + Clock + Sync,
     ensures { let known = known_in (P.told journals.now.opener.now) (P.named journals.now.opener.now) journals.now.path.now in
         IsAnswered O.written O.failures (EndsInJudged known manner) (IsFaultOfJudge known journals.now.path.now) out.old out.new result }
 {
-    match judge(journals.alloc, journals, manner, wait, out) {
+    match judge_shown(journals, manner, rt, out, screen, shown) {
         Ok(verdict) => Ok(status_of(verdict)),
         Err(fault) => {
             let fault = fault_of_judge(journals.path, fault);
@@ -168,7 +184,7 @@ fn answer_close<'a, P: Opener + Maker, O: Output>(
         IsAnswered O.written O.failures EndsInFiles (IsFaultOfClose known journals.now.path.now made.old.path.now) out.old out.new result }
 {
     let path = made.path;
-    match close(journals.alloc, journals, choice, made, wait) {
+    match close_folder(journals, choice, made, wait) {
         Ok(()) => Ok(Status::Free),
         Err(fault) => {
             let fault = fault_of_close(journals.path, path, fault);
@@ -178,13 +194,19 @@ fn answer_close<'a, P: Opener + Maker, O: Output>(
 }
 
 /// Does what the words ask for, and gives the exit status where that goes with standard output.
-fn answer<'a, P: Opener + Maker, O: Output, R: Threads + Wait + Sync>(
+fn answer<'a, P, O, L, R>(
     alloc: Global,
     words: CommandLine<'a>,
     opener: &P,
     rt: &R,
     out: &mut O,
+    screen: &mut Screen<L>,
 ) -> Result<Status, Complaint<'a>>
+where
+    P: Opener + Maker,
+    O: Output,
+    L: Output + Send,
+    R: Threads + Wait + Clock + Sync,
     ensures { IsAnswered O.written O.failures (IsDone (P.told opener.now) (P.named opener.now) words.entry) (IsFaultOf (P.told opener.now) (P.named opener.now) words.entry) out.old out.new result }
 {
     match words {
@@ -192,11 +214,21 @@ fn answer<'a, P: Opener + Maker, O: Output, R: Threads + Wait + Sync>(
             head,
             files,
             options,
-        } => answer_check(alloc, head, &files, options, opener, rt, out),
+            progress,
+        } => {
+            let shown = screen.manner(progress);
+            let screen = &mut screen.out;
+            answer_check(alloc, head, &files, options, opener, rt, out, screen, shown)
+        }
         CommandLine::Lint { file } => answer_lint(alloc, file, opener, rt, out),
-        CommandLine::Judge { folder, manner } => {
+        CommandLine::Judge {
+            folder,
+            manner,
+            progress,
+        } => {
             let judged = JournalFolder::new(alloc, opener, folder);
-            answer_judge(&judged, manner, rt, out)
+            let shown = screen.manner(progress);
+            answer_judge(&judged, manner, rt, out, &mut screen.out, shown)
         }
         CommandLine::Close {
             folder,
@@ -264,18 +296,26 @@ fn complain<E: Output>(alloc: Global, complaint: Complaint<'_>, err: &mut E) -> 
 }
 
 /// Does what the words after the program's name ask for, over the opener's files, and gives the exit
-/// status. A trace may have no end, so it may wait.
-pub fn program<P: Opener + Maker, O: Output, E: Output, R: Threads + Wait + Sync>(
+/// status. A trace may have no end, so it may wait. How far it is is shown on the screen alone, and nothing else
+/// depends on that.
+pub fn program<P, O, E, L, R>(
     alloc: Global,
     words: &[&str],
     opener: &P,
     rt: &R,
     out: &mut O,
     err: &mut E,
+    screen: &mut Screen<L>,
 ) -> Status
+where
+    P: Opener + Maker,
+    O: Output,
+    E: Output,
+    L: Output + Send,
+    R: Threads + Wait + Clock + Sync,
     ensures { Ends O.written O.failures E.written E.failures (P.told opener.now) (P.named opener.now) out.old out.new err.old err.new (map (λ word. word.now) words.now) result }
 {
-    match answer(alloc, parse(alloc, words), opener, rt, out) {
+    match answer(alloc, parse(alloc, words), opener, rt, out, screen) {
         Ok(status) => status,
         Err(complaint) => complain(alloc, complaint, err),
     }

@@ -25,6 +25,9 @@
 //! out-fails N            write N on standard output fails, counted from 0
 //! out-pieces N           a write on standard output takes at most N bytes
 //! err-fails N            write N on standard error fails, counted from 0
+//! rests PATH N MS        read N of that file comes after so many milliseconds
+//! terminal               standard error is a terminal, for what shows how far a check is
+//! shown-fails N          write N of what shows that fails, counted from 0
 //! status N               the exit status that is wanted
 //! out                    the text follows that must be on standard output, in lines as those of a file
 //! err                    the same of standard error; an output without a text must have none
@@ -32,6 +35,7 @@
 //! has TEXT               TEXT is somewhere on standard output, of which no whole text is given
 //! has-end TEXT           the same, at the end of a line
 //! made PATH              a file that must be made, with the text that follows; where none must be, none can be
+//! shown TEXT             TEXT is somewhere in what shows how far the check is; without one nothing is shown
 //! end                    ends the row
 //! ```
 //!
@@ -60,6 +64,7 @@ use std::alloc::{AllocError, Global};
 use std::io;
 use std::sync::Wait;
 use std::thread::Threads;
+use std::time::Clock;
 
 /// The text that some bytes are.
 fn text_of(alloc: Global, bytes: &[u8]) -> Result<String, AllocError> {
@@ -67,7 +72,7 @@ fn text_of(alloc: Global, bytes: &[u8]) -> Result<String, AllocError> {
 }
 
 /// Prints a row whose answer isn't the wanted one.
-fn run_row<R: AllocGlobal + Print + Eprint + Threads + Wait + Sync>(
+fn run_row<R: AllocGlobal + Print + Eprint + Threads + Wait + Clock + Sync>(
     rt: &R,
     row: &Row,
 ) -> io::Result<()> {

@@ -8,6 +8,7 @@ use cli::argv::{WordsFault, run};
 use cli::capacity::Capacity;
 use cli::command_line::{CommandLine, parse};
 use cli::fault::Fault;
+use cli::shown::Screen;
 use mpicall::fails_at::FailsAt;
 use mpicall::memory::MemoryOutput;
 use std::alloc::{AllocError, Global};
@@ -15,6 +16,7 @@ use std::io;
 use std::process::{ExitCode, Termination};
 use std::sync::Wait;
 use std::thread::Threads;
+use std::time::Clock;
 
 /// What was answered.
 #[derive(Drop)]
@@ -24,6 +26,8 @@ pub struct Answer {
     pub err: Vec<u8>,
     /// Whether the files that were made are the wanted ones.
     pub is_made: bool,
+    /// What shows how far a check is.
+    pub shown: Vec<u8>,
 }
 
 impl Answer {
@@ -37,11 +41,13 @@ impl Answer {
             (none, text)
         };
         let code = ExitCode::from(status);
+        let shown = Vec::new(alloc);
         Ok(Answer {
             code,
             out,
             err,
             is_made: true,
+            shown,
         })
     }
 
@@ -54,6 +60,7 @@ impl Answer {
             && self.is_made
             && is_text(wanted, &wanted.err, &self.err)
             && is_output(wanted, &self.out)
+            && is_shown(wanted, &self.shown)
     }
 }
 
@@ -78,6 +85,15 @@ fn is_output(wanted: &Wanted, told: &[u8]) -> bool {
     wanted.parts.iter().all(|part| told.contains(part.as_str()))
 }
 
+/// Whether what shows how far a check is has the wanted parts, and is empty where none is wanted.
+fn is_shown(wanted: &Wanted, shown: &[u8]) -> bool {
+    let Ok(text) = str::from_utf8(shown) else {
+        return false;
+    };
+    wanted.shown.is_empty() == text.is_empty()
+        && wanted.shown.iter().all(|part| text.contains(part.as_str()))
+}
+
 /// An output that takes at most so many bytes a write, and one at least.
 fn output_of(alloc: Global, most: usize) -> MemoryOutput {
     if most > 0 {
@@ -88,7 +104,7 @@ fn output_of(alloc: Global, most: usize) -> MemoryOutput {
 }
 
 /// What the program answers on the words and files of a row.
-fn answer_of_program<R: AllocGlobal + Eprint + Threads + Wait + Sync>(
+fn answer_of_program<R: AllocGlobal + Eprint + Threads + Wait + Clock + Sync>(
     rt: &R,
     row: &Row,
 ) -> Result<Answer, AllocError> {
@@ -102,13 +118,19 @@ fn answer_of_program<R: AllocGlobal + Eprint + Threads + Wait + Sync>(
         row,
         meeting: &meeting,
         made: &made,
+        clock: rt,
     };
-    let ended = run(&given, &shelf, rt, &mut out, &mut err);
+    let mut screen = Screen {
+        out: FailsAt::new(MemoryOutput::new(rt.alloc()), devices.failing_screen),
+        is_terminal: devices.is_terminal,
+    };
+    let ended = run(&given, &shelf, rt, &mut out, &mut err, &mut screen);
     Ok(Answer {
         code: ended.report(rt),
         out: out.device().bytes().to_vec(rt.alloc())?,
         err: err.device().bytes().to_vec(rt.alloc())?,
         is_made: made.is_all(row.wanted.made.as_slice()),
+        shown: screen.out.device().bytes().to_vec(rt.alloc())?,
     })
 }
 
@@ -178,7 +200,7 @@ fn texts<'a>(alloc: Global, words: &'a [Vec<u8>]) -> Result<Vec<&'a str>, AllocE
 }
 
 /// What is answered to a row.
-pub fn answer_of<R: AllocGlobal + Eprint + Threads + Wait + Sync>(
+pub fn answer_of<R: AllocGlobal + Eprint + Threads + Wait + Clock + Sync>(
     rt: &R,
     row: &Row,
 ) -> Result<Answer, AllocError> {

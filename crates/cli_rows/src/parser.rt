@@ -1,7 +1,7 @@
 //! Rows as lines of text.
 
 use crate::fault::LineFault;
-use crate::row::{Asked, Row, StoredFile};
+use crate::row::{Asked, Rest, Row, StoredFile};
 use std::alloc::Global;
 
 /// What a line came to.
@@ -232,6 +232,19 @@ impl RowParser {
         Ok(())
     }
 
+    /// A read of a file that comes after a rest.
+    fn add_rest(&mut self, alloc: Global, rest: &str) -> Result<(), LineFault> {
+        let (path, numbers) = rest.split_once(' ').ok_or(LineFault::NoText)?;
+        let (read, millis) = numbers.split_once(' ').ok_or(LineFault::NoText)?;
+        let path = path.to_string(alloc)?;
+        self.row.devices.rests.push(Rest {
+            path,
+            read: number(read)?,
+            millis: number(millis)?,
+        })?;
+        Ok(())
+    }
+
     /// The two files whose first reads wait for each other.
     fn meet(&mut self, alloc: Global, rest: &str) -> Result<(), LineFault> {
         let (first, second) = rest.split_once(' ').ok_or(LineFault::NoText)?;
@@ -262,6 +275,15 @@ impl RowParser {
         Ok(())
     }
 
+    /// What is among the updates.
+    fn add_shown(&mut self, alloc: Global, text: &str) -> Result<(), LineFault> {
+        if text.is_empty() {
+            return Err(LineFault::NoText);
+        }
+        self.row.wanted.shown.push(text.to_string(alloc)?)?;
+        Ok(())
+    }
+
     /// Reads a line of what must be answered.
     fn read_wanted(&mut self, alloc: Global, kind: &str, rest: &str) -> Result<(), LineFault> {
         match kind {
@@ -271,6 +293,7 @@ impl RowParser {
             "err" => self.place = Place::Error,
             "begins" => self.row.wanted.begins = true,
             "has" => self.add_part(alloc, rest, "")?,
+            "shown" => self.add_shown(alloc, rest)?,
             "has-end" => self.add_part(alloc, rest, "\n")?,
             _ => return Err(LineFault::UnknownWord),
         }
@@ -287,6 +310,9 @@ impl RowParser {
             "out-fails" => self.row.devices.failing_output = number(rest)?,
             "out-pieces" => self.row.devices.most_written = most(rest)?,
             "err-fails" => self.row.devices.failing_error = number(rest)?,
+            "rests" => self.add_rest(alloc, rest)?,
+            "terminal" => self.row.devices.is_terminal = true,
+            "shown-fails" => self.row.devices.failing_screen = number(rest)?,
             _ => return self.read_wanted(alloc, kind, rest),
         }
         Ok(())

@@ -22,6 +22,14 @@ pub struct StoredFile {
     pub text: String,
 }
 
+/// A read of a file that comes after a rest.
+#[derive(Drop)]
+pub struct Rest {
+    pub path: String,
+    pub read: u64,
+    pub millis: u64,
+}
+
 /// How files are read, and which read or write fails, counted from 0.
 #[derive(Drop)]
 pub struct Devices {
@@ -30,6 +38,8 @@ pub struct Devices {
     pub failing_read: u64,
     /// The most bytes that a read gives.
     pub most_read: usize,
+    /// The reads that come after a rest.
+    pub rests: Vec<Rest>,
     /// Whether each file is read by a thread of its own.
     pub in_threads: bool,
     /// Two files whose first reads wait for each other; no file has the empty path.
@@ -39,6 +49,9 @@ pub struct Devices {
     pub most_written: usize,
     /// The write that fails on standard error.
     pub failing_error: u64,
+    /// Whether a terminal shows how far a check is, and the write that fails there.
+    pub is_terminal: bool,
+    pub failing_screen: u64,
 }
 
 impl Devices {
@@ -48,11 +61,14 @@ impl Devices {
             failing: String::new(alloc),
             failing_read: u64::MAX,
             most_read: usize::MAX,
+            rests: Vec::new(alloc),
             in_threads: false,
             meeting: (String::new(alloc), String::new(alloc)),
             failing_output: u64::MAX,
             most_written: usize::MAX,
             failing_error: u64::MAX,
+            is_terminal: false,
+            failing_screen: u64::MAX,
         }
     }
 }
@@ -71,6 +87,8 @@ pub struct Wanted {
     pub parts: Vec<String>,
     /// The files that are made; where there are none, no folder can be.
     pub made: Vec<StoredFile>,
+    /// What is somewhere among the updates that show how far a check is; where there is none, nothing is shown.
+    pub shown: Vec<String>,
 }
 
 impl Wanted {
@@ -83,6 +101,7 @@ impl Wanted {
             begins: false,
             parts: Vec::new(alloc),
             made: Vec::new(alloc),
+            shown: Vec::new(alloc),
         }
     }
 }

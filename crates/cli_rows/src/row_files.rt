@@ -2,11 +2,12 @@
 
 ghost use Rattle.std.specs.Prelude.{◌≡◌, None};
 
-use crate::row::{Row, StoredFile};
+use crate::row::{Rest, Row, StoredFile};
 use cli::opener::{Maker, Opener};
 use mpicall::counted::Counted;
 use mpicall::fails_at::FailsAt;
 use std::sync::atomic::{AtomicBool, AtomicU64, Ordering};
+use std::time::{Clock, Duration};
 use std::{io, thread};
 
 /// How often a first read looks whether the other one was asked for as well.
@@ -50,17 +51,60 @@ impl Waits<'_> {
     }
 }
 
+/// The rests before reads of the file with a path.
+pub struct Rests<'a, R> {
+    path: &'a str,
+    all: &'a [Rest],
+    clock: &'a R,
+}
+
+impl<R: Clock> Rests<'_, R> {
+    /// Rests before this read, if it is to.
+    fn rest(&self, read: u64) {
+        for one in self.all {
+            if one.read == read && one.path.as_str() == self.path {
+                thread::sleep(self.clock, Duration::from_millis(one.millis));
+            }
+        }
+    }
+}
+
 /// A reader that gives at most so many bytes a read. Where it waits for another one, a first read fails that
 /// doesn't meet it.
-#[derive(Drop)]
-pub struct Pieces<'a> {
+pub struct Pieces<'a, R> {
     left: &'a [u8],
     most: usize,
     waits: Option<Waits<'a>>,
+    rests: Rests<'a, R>,
+    reads: u64,
 }
 
-impl<'a> io::Read for Pieces<'a> {
+impl<R> Drop for Rests<'_, R> {
+    fn drop(self) {
+        let Rests {
+            path: _,
+            all: _,
+            clock: _,
+        } = self;
+    }
+}
+
+impl<R> Drop for Pieces<'_, R> {
+    fn drop(self) {
+        let Pieces {
+            left: _,
+            most: _,
+            waits: _,
+            rests: _,
+            reads: _,
+        } = self;
+    }
+}
+
+impl<'a, R: Clock> io::Read for Pieces<'a, R> {
     fn read(&mut self, buf: &mut [u8]) -> io::Result<usize> {
+        self.rests.rest(self.reads);
+        self.reads = self.reads.saturating_add(1);
         if let Some(waits) = self.waits.take() {
             if !waits.meet() {
                 return Err(io::Error::from(io::ErrorKind::TimedOut));
@@ -136,19 +180,35 @@ impl<'a> io::Write for MadeFile<'a> {
 
 /// The files of a row, the meeting of two of them, and what is made.
 #[derive(Drop)]
-pub struct RowFiles<'a> {
+pub struct RowFiles<'a, R> {
     pub row: &'a Row,
     pub meeting: &'a Meeting,
     pub made: &'a Made,
+    pub clock: &'a R,
 }
 
-impl<'a> RowFiles<'a> {
+impl<'a, R> RowFiles<'a, R> {
     /// The text of the file that a path names.
     fn text(&self, path: &str) -> Option<&'a [u8]> {
         let row = self.row;
         for file in &row.files {
             if file.path.as_str() == path {
                 return Some(file.text.as_bytes());
+            }
+        }
+        None
+    }
+
+    /// The rests before reads of the file that a path names.
+    fn rests_of(&self, path: &str) -> Option<Rests<'a, R>> {
+        let row = self.row;
+        for file in &row.files {
+            if file.path.as_str() == path {
+                return Some(Rests {
+                    path: file.path.as_str(),
+                    all: row.devices.rests.as_slice(),
+                    clock: self.clock,
+                });
             }
         }
         None
@@ -174,14 +234,14 @@ impl<'a> RowFiles<'a> {
     }
 }
 
-impl<'a> Opener for RowFiles<'a> {
-    type In = FailsAt<Counted<Pieces<'a>>>;
+impl<'a, R: Clock + Sync> Opener for RowFiles<'a, R> {
+    type In = FailsAt<Counted<Pieces<'a, R>>>;
 
     ghost told = { λ _ _. None };
 
     ghost named = { λ _ _. None };
 
-    fn open_input(&self, path: &str) -> Option<FailsAt<Counted<Pieces<'a>>>> {
+    fn open_input(&self, path: &str) -> Option<FailsAt<Counted<Pieces<'a, R>>>> {
         let left = self.text(path)?;
         let devices = &self.row.devices;
         let most = devices.most_read;
@@ -191,12 +251,23 @@ impl<'a> Opener for RowFiles<'a> {
             u64::MAX
         };
         let waits = self.waits_of(path);
-        let pieces = Pieces { left, most, waits };
+        let rests = self.rests_of(path)?;
+        let pieces = Pieces {
+            left,
+            most,
+            waits,
+            rests,
+            reads: 0,
+        };
         Some(FailsAt::new(Counted::new(pieces), at))
     }
 
     fn waits(&self, _path: &str) -> bool {
         self.row.devices.in_threads
+    }
+
+    fn size(&self, path: &str) -> Option<u64> {
+        Some(self.text(path)?.len() as u64)
     }
 
     /// A folder is what comes before a slash in the path of some file.
@@ -217,7 +288,7 @@ impl<'a> Opener for RowFiles<'a> {
 }
 
 /// A folder is made where a row wants files made, and those alone can be.
-impl<'a> Maker for RowFiles<'a> {
+impl<'a, R> Maker for RowFiles<'a, R> {
     type Out = Counted<MadeFile<'a>>;
 
     fn make_folder(&self, _path: &str) -> bool {

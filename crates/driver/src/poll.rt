@@ -9,6 +9,7 @@ ghost use Rattle.driver.specs.inner.Runs.{IsSameSession};
 
 use gather::collector::Collector;
 use gather::ledger::Stepped;
+use progress::tracker::Tracker;
 use rankfeed::pause::Pause;
 use std::sync::Wait;
 
@@ -19,7 +20,8 @@ const MOST: u16 = 1024;
 #[derive(Clone, Copy, Debug, PartialEq, Eq)]
 struct PollResult {
     all_ended: bool,
-    some_came: bool,
+    /// How many items came.
+    came: u64,
 }
 
 /// Takes what is there from the feed of a rank.
@@ -29,7 +31,9 @@ fn take_some(collector: &mut Collector, rank: u16, polled: &mut PollResult)
 {
     for _ in 0..MOST {
         match collector.step(rank) {
-            Stepped::Took | Stepped::Refused | Stepped::Discarded => polled.some_came = true,
+            Stepped::Took | Stepped::Refused | Stepped::Discarded => {
+                polled.came = polled.came.saturating_add(1);
+            }
             Stepped::Empty => {
                 polled.all_ended = false;
                 return;
@@ -46,7 +50,7 @@ fn poll(collector: &mut Collector) -> PollResult
 {
     let mut polled = PollResult {
         all_ended: true,
-        some_came: false,
+        came: 0,
     };
     for rank in 0..collector.ranks() {
         take_some(collector, rank, &mut polled);
@@ -54,8 +58,9 @@ fn poll(collector: &mut Collector) -> PollResult
     polled
 }
 
-/// Takes what comes by the feeds of all ranks until each has ended.
-pub(crate) fn take_all(collector: &mut Collector, wait: &impl Wait)
+/// Takes what comes by the feeds of all ranks until each has ended. The tracker is handed the analyser after each
+/// sweep.
+pub(crate) fn take_all(collector: &mut Collector, tracker: &impl Tracker, wait: &impl Wait)
     ensures { IsSameSession collector.old collector.new }
 {
     let mut pause = Pause::new();
@@ -64,7 +69,8 @@ pub(crate) fn take_all(collector: &mut Collector, wait: &impl Wait)
         if polled.all_ended {
             return;
         }
-        if polled.some_came {
+        tracker.note(collector.analyser(), polled.came);
+        if polled.came > 0 {
             pause = Pause::new();
         } else {
             pause.rest(wait);

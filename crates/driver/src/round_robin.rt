@@ -13,6 +13,7 @@ use gather::ledger::Ledger;
 use mpicall::device::Input;
 use mpicall::record::Record;
 use mpicall::source::Source;
+use progress::tracker::Tracker;
 use rankfeed::Ending;
 use std::sync::Wait;
 
@@ -100,12 +101,18 @@ fn take_a_round<I: Input, G: Gate>(
     }
 }
 
-/// Turns of all sources until each has ended.
+/// The most records of a round.
+fn most_of(ranks: u16) -> u64 {
+    u64::from(ranks) * u64::from(RECORDS_A_TURN)
+}
+
+/// Turns of all sources until each has ended. The tracker is handed the analyser after each round.
 fn take_all_turns<I: Input, G: Gate>(
     sources: &mut Vec<Source<I>>,
     turns: &mut Vec<Turn>,
     ledger: &mut Ledger,
     gate: &G,
+    tracker: &impl Tracker,
     wait: &impl Wait,
 )
     requires one_a_rank { length ledger.old.recording ≡ vec_len sources.old }
@@ -119,6 +126,7 @@ fn take_all_turns<I: Input, G: Gate>(
             return;
         }
         take_a_round(sources, turns, ledger, gate);
+        tracker.note(ledger.analyser(), most_of(ledger.ranks()));
     }
     unreachable!()
 }
@@ -130,6 +138,7 @@ pub(crate) fn read_in_turns<I: Input + Drop, G: Gate>(
     turns: Vec<Turn>,
     ledger: Ledger,
     gate: &G,
+    tracker: &impl Tracker,
     wait: &impl Wait,
 ) -> Ledger
     requires one_a_rank { length ledger.recording ≡ vec_len sources }
@@ -143,6 +152,6 @@ pub(crate) fn read_in_turns<I: Input + Drop, G: Gate>(
     let mut ledger = ledger;
     let mut sources = sources;
     let mut turns = turns;
-    take_all_turns(&mut sources, &mut turns, &mut ledger, gate, wait);
+    take_all_turns(&mut sources, &mut turns, &mut ledger, gate, tracker, wait);
     ledger
 }

@@ -23,6 +23,7 @@ use moves::reading::Reading;
 use mpicall::device::{Input, Output};
 use mpicall::source::Source;
 use mpigroup::head::Head;
+use progress::tracker::{Tracker, Untracked};
 use rankfeed::Receipt;
 use report::write::{Format, ReportFault, write_report};
 use std::alloc::Global;
@@ -59,19 +60,21 @@ fn receipts_of(fed: Vec<FeedResult>, receipts: Vec<Option<Receipt>>) -> Vec<Opti
 
 /// What comes of the sources, each read by a thread with a stack of this size; of the system's where none is
 /// given.
-fn outcome_in_threads<I, G, R>(
+fn outcome_in_threads<I, G, T, R>(
     alloc: Global,
     head: Head,
     reading: Reading,
     sources: Vec<Source<I>>,
     capacity: u16,
     gate: &G,
+    tracker: &T,
     rt: &R,
     stack_size: Option<usize>,
 ) -> Result<Outcome, CloseFault>
 where
     I: Input + Drop + Send,
     G: Gate + Sync,
+    T: Tracker,
     R: Threads + Wait + Sync,
     requires room { 0 < capacity }
     requires one_a_rank { length sources.items ≡ ranks_of head }
@@ -100,6 +103,7 @@ where
                 started,
                 fed,
                 gate,
+                tracker,
                 &not_started,
                 stack_size,
             );
@@ -110,17 +114,19 @@ where
 }
 
 /// What comes of the sources, read by turns.
-fn outcome_in_turns<I, G, R>(
+fn outcome_in_turns<I, G, T, R>(
     alloc: Global,
     head: Head,
     reading: Reading,
     sources: Vec<Source<I>>,
     gate: &G,
+    tracker: &T,
     rt: &R,
 ) -> Result<Outcome, CloseFault>
 where
     I: Input + Drop,
     G: Gate,
+    T: Tracker,
     R: Wait,
     requires one_a_rank { length sources.items ≡ ranks_of head }
     requires fresh { AreFresh sources.items }
@@ -131,25 +137,27 @@ where
         return Err(CloseFault::Memory);
     };
     match Ledger::new(alloc, head, reading) {
-        Ok(ledger) => read_in_turns(sources, turns, ledger, gate, rt).conclude(alloc),
+        Ok(ledger) => read_in_turns(sources, turns, ledger, gate, tracker, rt).conclude(alloc),
         Err(_) => Err(CloseFault::Memory),
     }
 }
 
 /// What comes of the sources, read in the way that was asked for.
-fn outcome_of<I, G, R>(
+fn outcome_of<I, G, T, R>(
     alloc: Global,
     head: Head,
     reading: Reading,
     sources: Vec<Source<I>>,
     capacity: u16,
     gate: &G,
+    tracker: &T,
     rt: &R,
     by: ReadBy,
 ) -> Result<Outcome, CloseFault>
 where
     I: Input + Drop + Send,
     G: Gate + Sync,
+    T: Tracker,
     R: Threads + Wait + Sync,
     requires room { 0 < capacity }
     requires one_a_rank { length sources.items ≡ ranks_of head }
@@ -161,10 +169,10 @@ where
     match by {
         ReadBy::Threads { stack_size } => {
             outcome_in_threads(
-                alloc, head, reading, sources, capacity, gate, rt, stack_size,
+                alloc, head, reading, sources, capacity, gate, tracker, rt, stack_size,
             )
         }
-        ReadBy::Turns => outcome_in_turns(alloc, head, reading, sources, gate, rt),
+        ReadBy::Turns => outcome_in_turns(alloc, head, reading, sources, gate, tracker, rt),
     }
 }
 
@@ -203,9 +211,9 @@ fn report<O: Output>(
 /// first fault of the lowest rank that has one is reported instead, and then nothing is written.
 ///
 /// There is one source a rank, in rank order; none of them may have been asked before. At most `capacity`
-/// records of a rank that a thread reads wait to be judged. Before each record is read the gate is asked. All
-/// threads have ended when this returns.
-pub fn run_by<I, G, O, R>(
+/// records of a rank that a thread reads wait to be judged. Before each record is read the gate is asked. The
+/// tracker is handed the analyser meanwhile, and nothing depends on it. All threads have ended when this returns.
+pub fn run_by<I, G, O, T, R>(
     alloc: Global,
     head: Head,
     reading: Reading,
@@ -214,6 +222,7 @@ pub fn run_by<I, G, O, R>(
     gate: &G,
     format: Format,
     out: &mut O,
+    tracker: &T,
     rt: &R,
     by: ReadBy,
 ) -> Result<Verdict, RunFault>
@@ -221,6 +230,7 @@ where
     I: Input + Drop + Send,
     G: Gate + Sync,
     O: Output,
+    T: Tracker,
     R: Threads + Wait + Sync,
     requires room { 0 < capacity }
     requires one_a_rank { length sources.items ≡ ranks_of head }
@@ -245,7 +255,9 @@ where
     ensures no_write_failed { OnOk result (O.failures out.new ≡ O.failures out.old) }
     ensures output { IfErr result (LeavesOutput I.left O.written O.failures sources.items reading head format out.old out.new) }
 {
-    match outcome_of(alloc, head, reading, sources, capacity, gate, rt, by) {
+    match outcome_of(
+        alloc, head, reading, sources, capacity, gate, tracker, rt, by,
+    ) {
         Ok(outcome) => report(alloc, &outcome, format, out),
         Err(fault) => Err(fault_of_close(fault)),
     }
@@ -289,7 +301,7 @@ where
 {
     let by = ReadBy::Threads { stack_size: None };
     run_by(
-        alloc, head, reading, sources, capacity, gate, format, out, rt, by,
+        alloc, head, reading, sources, capacity, gate, format, out, &Untracked, rt, by,
     )
 }
 

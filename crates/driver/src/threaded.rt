@@ -15,13 +15,14 @@ use gather::collector::Collector;
 use gather::gate::Gate;
 use mpicall::device::Input;
 use mpicall::source::Source;
+use progress::tracker::Tracker;
 use rankfeed::Feed;
 use std::sync::Wait;
 use std::thread;
 use std::thread::{Scope, Threads};
 
 /// Starts all threads, takes what they put until each feed has ended, and waits for the threads.
-fn in_scope<'s, E, I, G, R>(
+fn in_scope<'s, E, I, G, T, R>(
     scope: &Scope<'s, E>,
     rt: &'s R,
     sources: Vec<Source<I>>,
@@ -30,12 +31,14 @@ fn in_scope<'s, E, I, G, R>(
     started: Vec<Started<I, G>>,
     fed: Vec<FeedResult>,
     gate: &'s G,
+    tracker: &T,
     not_started: &'s NotStarted,
     stack_size: Option<usize>,
 ) -> (Collector, Vec<FeedResult>)
 where
     I: Input + Drop + Send + 's,
     G: Gate + Sync,
+    T: Tracker,
     R: Threads + Wait + Sync,
     requires one_a_source { vec_len feeds ≡ vec_len sources }
     requires fresh { AreFresh sources.items }
@@ -59,7 +62,7 @@ where
         not_started,
         stack_size,
     );
-    take_all(&mut collector, rt);
+    take_all(&mut collector, tracker, rt);
     let fed = Started::finish_all(all, fed, rt);
     (collector, fed)
 }
@@ -67,7 +70,7 @@ where
 /// Feeds the sources by a thread each, takes what comes until each feed has ended, and answers what came of
 /// each source. All threads have ended when this returns. `started` and `fed` have room for one entry a
 /// source, so that no memory is wanted once the first thread runs.
-pub(crate) fn in_threads<I, G, R>(
+pub(crate) fn in_threads<I, G, T, R>(
     rt: &R,
     sources: Vec<Source<I>>,
     feeds: Vec<Feed>,
@@ -75,12 +78,14 @@ pub(crate) fn in_threads<I, G, R>(
     started: Vec<Started<I, G>>,
     fed: Vec<FeedResult>,
     gate: &G,
+    tracker: &T,
     not_started: &NotStarted,
     stack_size: Option<usize>,
 ) -> (Collector, Vec<FeedResult>)
 where
     I: Input + Drop + Send,
     G: Gate + Sync,
+    T: Tracker,
     R: Threads + Wait + Sync,
     requires one_a_source { vec_len feeds ≡ vec_len sources }
     requires fresh { AreFresh sources.items }
@@ -117,6 +122,7 @@ where
                 started,
                 fed,
                 gate,
+                tracker,
                 not_started,
                 stack_size,
             )

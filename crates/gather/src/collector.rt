@@ -13,6 +13,7 @@ ghost use Rattle.watches.specs.Publishers.{published_by};
 use crate::ledger::Ledger;
 pub use crate::ledger::Stepped;
 use crate::outcome::{CloseFault, Outcome};
+use moves::analyser::Analyser;
 use rankfeed::{Came, Receipt, Taker};
 use std::alloc::Global;
 use std::sync::Wait;
@@ -211,6 +212,15 @@ impl Collector {
         ensures collects { KeepsWhatCame self.now }
     {
         self.ledger.ranks()
+    }
+
+    /// The analyser of the records that were accepted so far.
+    pub fn analyser(&self) -> &Analyser
+        ensures reading { result.now.reading ≡ (kept self.now).reading }
+        ensures groups { result.now.groups ≡ (kept self.now).groups }
+        ensures recording { result.now.recording ≡ (kept self.now).recording }
+    {
+        self.ledger.analyser()
     }
 
     /// Takes all that was sent on the feeds that have a receipt, in rank order, and answers the lowest rank

@@ -157,7 +157,7 @@ impl Ledger {
     }
 
     /// The analyser of the records that were accepted so far.
-    pub(crate) fn analyser(&self) -> &Analyser
+    pub fn analyser(&self) -> &Analyser
         ensures reading { result.now.reading ≡ self.now.reading }
         ensures groups { result.now.groups ≡ self.now.groups }
         ensures recording { result.now.recording ≡ self.now.recording }

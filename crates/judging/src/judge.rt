@@ -33,6 +33,7 @@ use moves::reading::Reading;
 use mpicall::device::Output;
 use mpigroup::fault::{HeadFault, ReadFault as HeadReadFault};
 use mpigroup::head::Head;
+use progress::tracker::Tracker;
 use report::judged::{Judged, LeftAt, LineAt, write_judged};
 use report::write::{Format, ReportFault};
 use std::alloc::{AllocError, AllocFailed, Global};
@@ -135,7 +136,12 @@ fn lists_of<J: Journals>(
 }
 
 /// The analyser of a recording, whose lists are made here.
-fn analyser_of(alloc: Global, lists: &mut Lists, reading: Reading) -> Result<Analyser, JudgeFault>
+fn analyser_of(
+    alloc: Global,
+    lists: &mut Lists,
+    reading: Reading,
+    tracker: &impl Tracker,
+) -> Result<Analyser, JudgeFault>
     ensures reading { IfOk result (λ analyser. analyser.reading ≡ reading) }
     ensures closed { IfOk result (λ analyser. IsClosed analyser.recording) }
     ensures all { IfOk result (λ analyser. IsFresh lists.old.recording → IsRead lists.old.recording.run →
@@ -147,7 +153,7 @@ fn analyser_of(alloc: Global, lists: &mut Lists, reading: Reading) -> Result<Ana
 {
     let head = head_of(alloc, &lists.recording)?;
     let mut analyser = Analyser::new(alloc, head, reading)?;
-    lists.take_all(&mut analyser)?;
+    lists.take_all(&mut analyser, tracker)?;
     if !analyser.is_closed() {
         return Err(JudgeFault::Unended);
     }
@@ -281,12 +287,14 @@ fn report<O: Output>(
     write_report(alloc, analyser, graph, &judged, manner, out)
 }
 
-/// Judges the journals of a run, and writes the report of their recording.
+/// Judges the journals of a run, and writes the report of their recording. The tracker is handed the analyser
+/// meanwhile, and nothing depends on it.
 #[tactic(auto, using(crate::proofs::UnwrittenLemmas::unwritten))]
 pub fn judge<J: Journals, O: Output>(
     alloc: Global,
     journals: &J,
     manner: Manner,
+    tracker: &impl Tracker,
     wait: &impl Wait,
     out: &mut O,
 ) -> Result<Verdict, JudgeFault>
@@ -296,7 +304,7 @@ pub fn judge<J: Journals, O: Output>(
     ensures output { IfErr result (LeavesAt O.written O.failures out.old out.new) }
 {
     let mut lists = lists_of(alloc, journals, manner, wait)?;
-    let analyser = analyser_of(alloc, &mut lists, manner.reading)?;
+    let analyser = analyser_of(alloc, &mut lists, manner.reading, tracker)?;
     let graph = graph_of(alloc, &analyser)?;
     report(alloc, &lists, &analyser, &graph, manner, out)
 }

@@ -15,6 +15,7 @@ use closing::recording::Recording;
 use gather::fault::{RankFault, Refusal};
 use moves::analyser::{Analyser, OfferFault};
 use mpicall::record::Record;
+use progress::tracker::Tracker;
 use std::alloc::{AllocError, Global};
 
 /// How many entries of a rank are taken before those of the next.
@@ -90,6 +91,11 @@ fn ranks_of(analyser: &Analyser) -> u16
     ensures { result ≡ length analyser.now.recording }
 {
     analyser.head().ranks()
+}
+
+/// About how many records a round brings.
+fn most_of(ranks: u16) -> u64 {
+    u64::from(ranks) * u64::from(ENTRIES_A_TURN)
 }
 
 /// Whether both are so.
@@ -219,9 +225,14 @@ impl Lists {
         Ok(are_over)
     }
 
-    /// Takes the entries of all ranks. An entry has a line, and a journal fewer than there are turns.
+    /// Takes the entries of all ranks. An entry has a line, and a journal fewer than there are turns. The tracker is
+    /// handed the analyser after each round.
     #[tactic(auto, using(crate::proofs::TurnLemmas::turn_steps))]
-    pub(crate) fn take_all(&mut self, analyser: &mut Analyser) -> Result<(), JudgeFault>
+    pub(crate) fn take_all(
+        &mut self,
+        analyser: &mut Analyser,
+        tracker: &impl Tracker,
+    ) -> Result<(), JudgeFault>
         ensures kept { KeepsRanks analyser.old analyser.new }
         ensures fault { IfErr result IsOfRecording }
         ensures lawful { IfErr result (λ fault. IsWithIt self.old.recording analyser.old → fault ≡ Memory) }
@@ -234,6 +245,7 @@ impl Lists {
             if self.take_a_round(analyser)? {
                 return Ok(());
             }
+            tracker.note(analyser, most_of(ranks_of(analyser)));
         }
         Ok(())
     }

@@ -3,10 +3,16 @@
 
 use cli::argv::{Ended, run};
 use cli::opener::Disk;
+use cli::shown::Screen;
 use mpicall::counted::Counted;
+use std::io::IsTerminal;
 
 fn main(rt: HostRuntime) -> Ended {
     let mut out = Counted::new(rt.stdout());
     let mut err = Counted::new(rt.stderr());
-    run(&rt, &Disk(&rt), &rt, &mut out, &mut err)
+    let mut screen = Screen {
+        is_terminal: rt.stderr().is_terminal(),
+        out: Counted::new(rt.stderr()),
+    };
+    run(&rt, &Disk(&rt), &rt, &mut out, &mut err, &mut screen)
 }

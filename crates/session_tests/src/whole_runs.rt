@@ -11,6 +11,7 @@ use mpicall::fault::SourceFault;
 use mpicall::memory::{MemoryInput, MemoryOutput};
 use mpicall::source::Source;
 use mpigroup::head::Head;
+use progress::tracker::Untracked;
 use report::write::Format;
 use std::alloc::{AllocError, Global};
 use std::process::Abort;
@@ -63,7 +64,7 @@ fn answer<G: Gate + Sync, R: Threads + Wait + Sync>(
         run(alloc, head, reading, sources, 1, gate, format, &mut out, rt)
     } else {
         run_by(
-            alloc, head, reading, sources, 1, gate, format, &mut out, rt, by,
+            alloc, head, reading, sources, 1, gate, format, &mut out, &Untracked, rt, by,
         )
     };
     let written: &[u8] = if answer.is_ok() {

@@ -58,7 +58,7 @@ impl Stands {
     }
 
     /// How many calls the ranks have completed together.
-    pub(crate) fn completed(&self) -> u64
+    pub fn completed(&self) -> u64
         ensures value { result ≡ sum self.now.places }
         ensures most { result ≤ MOST_RANKS * 4294967295 }
     {

@@ -21,7 +21,7 @@
 //! watch.learn(&told);
 //! ```
 
-ghost use Rattle.std.specs.Prelude.{◌≡◌, ◌≤◌, true, false, is_some, None, Ok, IfOk, OnErr};
+ghost use Rattle.std.specs.Prelude.{◌≡◌, ◌≤◌, true, false, is_some, None, Some, Ok, IfOk, OnErr};
 ghost use Rattle.std.specs.Option.{ForSome};
 ghost use mathlib.Core.List.{IsPrefix};
 ghost use Rattle.left_right.specs.Sides.{view};
@@ -32,6 +32,7 @@ ghost use Rattle.watches.specs.inner.Shown.{list_shown};
 
 use crate::board::{OneList, Sees, View};
 use crate::publication::Publication;
+use crate::stands::Stands;
 use left_right::reader::Reader;
 use thiserror::Error;
 
@@ -128,6 +129,29 @@ impl Watch {
         self.reader = Some(reader);
         if is_there {
             Ok(Some(self.known.stands().of(rank)))
+        } else {
+            Err(Gone)
+        }
+    }
+
+    /// Where all ranks stand in the last publication that is then known, at one moment. Where the board is gone the
+    /// watch stays as it was.
+    #[tactic(auto, using(crate::proofs::RisingLemmas::never_falls))]
+    pub fn stands(&mut self) -> Result<Stands, Gone>
+        ensures ok { IfOk result (λ stands. last_published (seen_by self.new) ≡ Some stands) }
+        ensures grows { IsPrefix (seen_by self.old) (seen_by self.new) }
+        ensures never_falls { NeverFalls (last_published (seen_by self.old)) (last_published (seen_by self.new)) }
+        ensures gone { OnErr result (seen_by self.new ≡ seen_by self.old) }
+        ensures list { list_watched self.new ≡ list_watched self.old }
+        ensures ranks { ranks_watched self.new ≡ ranks_watched self.old }
+    {
+        let Some(reader) = self.reader.take() else {
+            unreachable!()
+        };
+        let (reader, is_there) = look(reader, &mut self.known);
+        self.reader = Some(reader);
+        if is_there {
+            Ok(*self.known.stands())
         } else {
             Err(Gone)
         }

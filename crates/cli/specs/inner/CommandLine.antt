@@ -8,27 +8,27 @@ use Rattle.cli.specs.CommandLine.{Task, is_text, CheckRun, LintTrace, JudgeJourn
 
 -- the answer has the task, says that there is none, or has no memory
 abbrev pub Names : Option Task → CommandLine → Type 0
-Names task (Check head files options) = task ≡ Some (CheckRun head.now (map (λ file. file.now) files.items) options)
+Names task (Check head files options progress) = task ≡ Some (CheckRun head.now (map (λ file. file.now) files.items) options)
 Names task (Lint file) = task ≡ Some (LintTrace file.now)
-Names task (Judge folder manner) = task ≡ Some (JudgeJournals folder.now manner)
+Names task (Judge folder manner progress) = task ≡ Some (JudgeJournals folder.now manner)
 Names task (Close folder out choice) = task ≡ Some (CloseJournals folder.now out.now choice)
 Names task (Said text is_error) = (task ≡ None) × (is_error ≡ true)
 Names task NoMemory = Unit {0}
 
 -- the text is said, or there is no memory for it
 abbrev pub Says : Text → Bool → CommandLine → Type 0
-Says text is_error (Check head files options) = ⊥
+Says text is_error (Check head files options progress) = ⊥
 Says text is_error (Lint file) = ⊥
-Says text is_error (Judge folder manner) = ⊥
+Says text is_error (Judge folder manner progress) = ⊥
 Says text is_error (Close folder out choice) = ⊥
 Says text is_error (Said said is_said) = (string_bytes said ≡ text) × (is_said ≡ is_error)
 Says text is_error NoMemory = Unit {0}
 
 -- a text is said of an error of this kind, or there is no memory for it
 abbrev pub SaysError : ErrorKind → CommandLine → Type 0
-SaysError kind (Check head files options) = ⊥
+SaysError kind (Check head files options progress) = ⊥
 SaysError kind (Lint file) = ⊥
-SaysError kind (Judge folder manner) = ⊥
+SaysError kind (Judge folder manner progress) = ⊥
 SaysError kind (Close folder out choice) = ⊥
 SaysError kind (Said text is_error) = is_text kind ≡ not is_error
 SaysError kind NoMemory = Unit {0}

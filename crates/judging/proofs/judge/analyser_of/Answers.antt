@@ -9,26 +9,26 @@ use Rattle.judging.proofs.JudgeLemmas.{err_as}
 use Rattle.judging.proofs.judge.analyser_of.Goals as goal
 
 pub returns-in_err-take_all-clause-lawful : goal.returns-in_err-take_all-clause-lawful
-returns-in_err-take_all-clause-lawful c =
+returns-in_err-take_all-clause-lawful g c =
     let it = c.args.lists.now.recording in
     err_as c.from_residual-in_err-take_all.result c.in_err-take_all.field-0.0 (λ fault. IsFresh it → IsRead it.run → fault ≡ Memory) c.from_residual-in_err-take_all.ensures.1
     (λ fresh read. c.in_err-take_all.ensures.lawful
     (begins_with_it it c.in_ok-analyser.analyser c.in_ok-head.head fresh read c.in_ok-head.ensures.head c.in_ok-analyser.ensures.groups c.in_ok-analyser.ensures.recording))
 
 pub returns-then-not-is_closed-clause-lawful : goal.returns-then-not-is_closed-clause-lawful
-returns-then-not-is_closed-clause-lawful c = λ fresh read.
+returns-then-not-is_closed-clause-lawful g c = λ fresh read.
     let it = c.args.lists.now.recording in
     let all = c.in_ok-take_all.ensures.all
     (begins_with_it it c.in_ok-analyser.analyser c.in_ok-head.head fresh read c.in_ok-head.ensures.head c.in_ok-analyser.ensures.groups c.in_ok-analyser.ensures.recording) in
     absurd (false≢true (sym c.if-not-is_closed.true ∙ c.is_closed.ensures.1 (all_closed it c.take_all.new.self.recording c.take_all.new.analyser all)))
 
 pub returns-clause-all : goal.returns-clause-all
-returns-clause-all c = λ fresh read.
+returns-clause-all g c = λ fresh read.
     let it = c.args.lists.now.recording in
     c.in_ok-take_all.ensures.all
     (begins_with_it it c.in_ok-analyser.analyser c.in_ok-head.head fresh read c.in_ok-head.ensures.head c.in_ok-analyser.ensures.groups c.in_ok-analyser.ensures.recording)
 
 pub returns-clause-table : goal.returns-clause-table
-returns-clause-table c = λ fresh read.
+returns-clause-table g c = λ fresh read.
     c.in_ok-take_all.ensures.table
     (begins_with_it c.args.lists.now.recording c.in_ok-analyser.analyser c.in_ok-head.head fresh read c.in_ok-head.ensures.head c.in_ok-analyser.ensures.groups c.in_ok-analyser.ensures.recording)

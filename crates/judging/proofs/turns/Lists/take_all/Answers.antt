@@ -9,7 +9,7 @@ use Rattle.judging.proofs.TurnOrders.{round_more}
 use Rattle.judging.proofs.turns.Lists.take_all.Goals as goal
 
 pub loop-round-init : goal.loop-round-init
-loop-round-init c = record {
+loop-round-init g c = record {
   kept = keeps_none c.args.analyser.now;
   with_it = λ with_it. with_it;
   table = λ with_it has. has;
@@ -20,7 +20,7 @@ loop-round-init c = record {
 }
 
 pub loop-round-preserved : goal.loop-round-preserved
-loop-round-preserved c =
+loop-round-preserved g c =
     let so_far = c.loop-round.invariant in
     let mid = c.loop-round.self.recording in
     let new = c.take_a_round.new.self.recording in
@@ -42,7 +42,7 @@ loop-round-preserved c =
     }
 
 pub returns-then-branch-clause-all : goal.returns-then-branch-clause-all
-returns-then-branch-clause-all c = λ with_it.
+returns-then-branch-clause-all g c = λ with_it.
     let so_far = c.loop-round.invariant in
     let taken = c.in_ok-take_a_round.ensures in
     let own = so_far.with_it with_it in
@@ -53,7 +53,7 @@ returns-then-branch-clause-all c = λ with_it.
     (λ rank within. turns.handed rank (omega (arith, within, many, own.ranks)))
 
 pub returns-clause-all : goal.returns-clause-all
-returns-clause-all c = λ with_it.
+returns-clause-all g c = λ with_it.
     let so_far = c.loop-round.invariant in
     let some : 0 < c.loop-round._round = omega (arith, c.loop-round-test.false) in
     has_all c.args.self.now.recording c.loop-round.self.recording c.loop-round.analyser (so_far.run with_it) (so_far.choice with_it) (so_far.with_it with_it)
@@ -61,7 +61,7 @@ returns-clause-all c = λ with_it.
     (so_far.handed with_it some)
 
 pub returns-then-branch-clause-table : goal.returns-then-branch-clause-table
-returns-then-branch-clause-table c = λ with_it has.
+returns-then-branch-clause-table g c = λ with_it has.
     let so_far = c.loop-round.invariant in
     let taken = c.in_ok-take_a_round.ensures in
     let own = so_far.with_it with_it in
@@ -72,7 +72,7 @@ returns-then-branch-clause-table c = λ with_it has.
     ∙ ((taken.with_it own).parts rank within).over (taken.over own c.if-branch.true rank (omega (arith, within, many, own.ranks))))
 
 pub returns-clause-table : goal.returns-clause-table
-returns-clause-table c = λ with_it has.
+returns-clause-table g c = λ with_it has.
     let so_far = c.loop-round.invariant in
     let some : 0 < c.loop-round._round = omega (arith, c.loop-round-test.false) in
     all_lines c.loop-round.self.recording (rows_of c.loop-round.self.table) (so_far.table with_it has).rows

@@ -7,7 +7,7 @@ use Rattle.judging.specs.inner.Unwritten.{KeepsRanks}
 use Rattle.judging.proofs.turns.Lists.take_all.Given as goal
 
 abbrev pub invariant-loop-round : goal.invariant-loop-round
-invariant-loop-round l = record {
+invariant-loop-round g l = record {
   kept : KeepsRanks l.fn.analyser l.analyser;
   with_it : IsWithIt l.fn.self.recording l.fn.analyser → IsWithIt l.self.recording l.analyser;
   table : IsWithIt l.fn.self.recording l.fn.analyser → HasTable l.fn.self → HasTable l.self;

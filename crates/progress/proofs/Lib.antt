@@ -1,0 +1,2 @@
+pub mod EarliestLemmas
+pub mod UpdateLemmas
