@@ -5,6 +5,7 @@ use crate::chains::{set_lists, take_of_lists, tell_list};
 use crate::fault::Fault;
 use crate::fields::tell_sized;
 use crate::groups::{tell_requests, tell_split};
+use crate::known::Known;
 use crate::mixes::tell_mixes;
 use crate::numbers::{Calls, tell_numbers};
 use crate::pairs::{add, tell_partner, told};
@@ -23,10 +24,12 @@ use moves::reading::Reading;
 use mpicall::record::Record;
 use mpigroup::head::Head;
 use pairing::pairs::Pairs;
+use report::write::Format;
 use std::alloc::{AllocError, Global};
 use std::sync::Wait;
 
-/// The name of a row, the head of its run, its calls as they were offered to an analyser and added to pairs, a text, and lists.
+/// The name of a row, the head of its run, its calls as they were offered to an analyser and added to pairs, a text, lists,
+/// and what is known of how the run goes on.
 pub struct Fixture {
     name: String,
     head: Vec<u8>,
@@ -34,6 +37,7 @@ pub struct Fixture {
     pairs: Pairs,
     text: Vec<u8>,
     lists: Lists<u32>,
+    known: Known,
 }
 
 impl Drop for Fixture {
@@ -45,6 +49,7 @@ impl Drop for Fixture {
             pairs: _,
             text: _,
             lists: _,
+            known: _,
         } = self;
     }
 }
@@ -94,6 +99,7 @@ impl Fixture {
                 pairs,
                 text: Vec::new(alloc),
                 lists: Lists::new(alloc),
+                known: Known::new(alloc),
             }),
             Err(fault) => Err(fault),
         }
@@ -136,6 +142,7 @@ impl Fixture {
         }
         self.text.clear();
         self.lists = Lists::new(answer.alloc());
+        self.known = Known::new(answer.alloc());
         self.begin_run(answer, "ranks 1");
     }
 
@@ -168,7 +175,10 @@ impl Fixture {
                 self.add_text(answer, 1, rest);
             }
             "more" => self.add_many(answer, rest),
-            _ => return set_lists(answer, &mut self.lists, word, rest),
+            _ => {
+                return self.known.set(answer, word, rest)
+                    || set_lists(answer, &mut self.lists, word, rest);
+            }
         }
         true
     }
@@ -209,9 +219,20 @@ impl Fixture {
             "mixes" => tell_mixes(answer, &self.head, &self.run, rest),
             "heldback" => tell_held_back(answer, &self.head, &self.run, rest),
             "partner" => tell_partner(answer, &self.pairs, rest),
+            "known" => self.tell_of_known(answer, rest),
             _ => return self.tell_of_graph(answer, word, rest),
         }
         true
+    }
+
+    /// Answers who is held, or the report, where pending calls and sinks are known.
+    fn tell_of_known(&self, answer: &mut Answer, asked: &str) {
+        match asked {
+            "held" => self.known.tell_held(answer, &self.run),
+            "text" => self.known.tell(answer, &self.run, Format::Text),
+            "json" => self.known.tell(answer, &self.run, Format::Json),
+            _ => answer.fail(Fault::Unread),
+        }
     }
 
     /// Answers a question about the wait graph, if it is such a one.

@@ -7,7 +7,8 @@ use Rattle.closing.specs.Entries.{Run, Placed}
 use Rattle.closing.specs.Endings.{breaks_off}
 use Rattle.closing.specs.Entry.{Choice}
 use Rattle.closing.specs.Steps.{Id, Progress, WaitsForAll, WaitsForLate, after_step, after_steps}
-use Rattle.closing.specs.Recording.{Ends, GoesOn, Outcome, is_end, outcome_of}
+use Rattle.closing.specs.Recording.{is_end, outcome_of}
+use Rattle.closing.specs.Sinks.{Ends, GoesOn, Outcome}
 use Rattle.closing.specs.inner.Lists.{Handed, ComesTo, Stands}
 use Rattle.closing.specs.inner.SoFar.{Entered}
 use Rattle.closing.specs.inner.Walked.{EndsAt, Follows}
@@ -16,7 +17,7 @@ use Rattle.closing.specs.declared.list.List.{List as ListCode}
 use Rattle.closing.specs.declared.stop.Stop.{Stop}
 use Rattle.closing.specs.declared.stop.Stop.TheVariants.{Left, Memory}
 use Rattle.closing.specs.declared.why.Why.{Why}
-use Rattle.closing.specs.declared.why.Why.TheVariants.{NeverCameBack, NeverReported, Failed, NoNumber, TooLong, CannotBe, Stopped, Aborted, Full, NoJournal}
+use Rattle.closing.specs.declared.why.Why.TheVariants.{NeverCameBack, NeverReported, Failed, NoNumber, TooLong, CannotBe, Stopped, Aborted, Full, NoJournal, NotJudged}
 use Rattle.closing.proofs.GrownLemmas.{same_records}
 use Rattle.closing.proofs.OutcomeOfEntry.{broken_is, ended_is, failed_is, goes_on_past}
 use Rattle.closing.proofs.StepsLemmas.{ends_cut, still_cut}
@@ -66,6 +67,7 @@ found_stands handed progress line it CannotBe h stands = (refl, stands)
 found_stands handed progress line it Stopped h stands = (refl, stands)
 found_stands handed progress line it Aborted h stands = (refl, stands)
 found_stands handed progress line it Full h stands = (refl, stands)
+found_stands handed progress line it NotJudged h stands = (refl, stands)
 found_stands handed progress line it NoJournal h stands = (refl, stands)
 found_stands handed progress line it TooLong h stands = absurd (h refl)
 
@@ -166,6 +168,7 @@ ends_as A (Left CannotBe) handed progress line why it is = is
 ends_as A (Left Stopped) handed progress line why it is = is
 ends_as A (Left Aborted) handed progress line why it is = is
 ends_as A (Left Full) handed progress line why it is = is
+ends_as A (Left NotJudged) handed progress line why it is = is
 ends_as A (Left NoJournal) handed progress line why it is = is
 
 -- it stops where its call does

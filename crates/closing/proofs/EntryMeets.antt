@@ -15,7 +15,8 @@ use Rattle.closing.specs.Entries.{Run, Placed, entries_at, journal_at}
 use Rattle.closing.specs.Entry.{Choice, id_of, matched_message}
 use Rattle.closing.specs.Fit as fit
 use Rattle.closing.specs.Fit.{AllFit, AllSame, AreChosen, AreNumbers, EntriesFit, IsFit, NamesKnown, TestsFit, lines_before, steps_in}
-use Rattle.closing.specs.Recording.{GoesOn, Outcome, is_end, outcome_of}
+use Rattle.closing.specs.Recording.{is_end, outcome_of}
+use Rattle.closing.specs.Sinks.{GoesOn, Outcome}
 use Rattle.closing.specs.Steps.{Id, Own, Progress, Step, after_steps}
 use Rattle.closing.specs.Table.{Table}
 use Rattle.closing.specs.inner.Lists.{Handed, Stands}

@@ -11,7 +11,7 @@ use Rattle.journals.specs.declared.word.Word.TheVariants.{Call as CallLine, Repo
 use Rattle.closing.specs.Entries.{Placed, Run, journal_at}
 use Rattle.closing.specs.Entry.{Choice}
 use Rattle.closing.specs.Fit.{IsFit}
-use Rattle.closing.specs.Recording.{outcome_of}
+use Rattle.closing.specs.Recording.{outcome_in}
 use Rattle.closing.specs.Steps.{Step, after_steps}
 use Rattle.closing.specs.Table.{Table}
 use Rattle.closing.specs.inner.Noted.{AreReports, call_if, reports_in}
@@ -87,9 +87,9 @@ module _ (run : Run) (choice : Choice) (journal : Journal) (kept : Communicators
     module _ (now : Table) (result : Result Bool Stop) (one : Walk)
         (same : one ≡ record begun { comms = one.comms; list = one.list; requests = one.requests; late = one.late; ids = one.ids; wanted = one.wanted })
         (entered : IsEntered run choice placed result so_far.handed so_far.progress kept.keys now reports.end one) where
-      list_as : (said : Result Bool Stop) → result ≡ said → Entered said (outcome_of run choice placed) so_far.handed so_far.progress placed.line one.list
+      list_as : (said : Result Bool Stop) → result ≡ said → Entered said (outcome_in run choice so_far.progress.records placed) so_far.handed so_far.progress placed.line one.list
       list_as said e =
-          subst (λ (r : Result Bool Stop). Entered r (outcome_of run choice placed) so_far.handed so_far.progress placed.line one.list) e entered.list
+          subst (λ (r : Result Bool Stop). Entered r (outcome_in run choice so_far.progress.records placed) so_far.handed so_far.progress placed.line one.list) e entered.list
 
       grows : (said : Result Bool Stop) → result ≡ said → (said ≡ Err Memory → ⊥) → Grows kept.keys now
       grows said e some = entered.grows (λ out. some (sym e ∙ out))
@@ -153,7 +153,7 @@ module _ (run : Run) (choice : Choice) (journal : Journal) (kept : Communicators
       -- no record is taken away
       pub step_more : (said : Result Bool Stop) → result ≡ said → (said ≡ Err Memory → ⊥) → length old.list.records.items ≤ length one.list.records.items
       step_more said e some =
-          entered_more so_far.handed so_far.progress old.list one.list so_far.stands said (outcome_of run choice placed) placed.line some (list_as said e)
+          entered_more so_far.handed so_far.progress old.list one.list so_far.stands said (outcome_in run choice so_far.progress.records placed) placed.line some (list_as said e)
 
   -- ---- No entry is left ----
 

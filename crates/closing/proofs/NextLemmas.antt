@@ -13,7 +13,8 @@ use Rattle.journals.specs.declared.word.Word.TheVariants.{Call as CallLine, Repo
 use Rattle.closing.specs.Entries.{Run, journal_at, lines_at, lines_in}
 use Rattle.closing.specs.Entry.{Choice}
 use Rattle.closing.specs.Freed.{is_freed}
-use Rattle.closing.specs.Recording.{Listed, GoesOn, cut, list_of, most_records, outcome_of, whole_list}
+use Rattle.closing.specs.Recording.{Listed, cut, list_of, most_records, outcome_in, whole_list}
+use Rattle.closing.specs.Sinks.{GoesOn}
 use Rattle.closing.specs.Steps.{Id, Step, Written, after_steps}
 use Rattle.closing.specs.Table.{Table}
 use Rattle.closing.specs.inner.Holds.{HasComms}
@@ -134,7 +135,7 @@ module _ (run : Run) (choice : Choice) (journal : Journal) (table : Table) (old 
     before = old.handed + length old.list.records.items
 
     -- the rank's last call
-    pub final_walk : (now : Table) (list : ListCode) (new : Walk) → Entered (Ok true) (outcome_of run choice (placed_here old.rank journal old.next word)) so_far.handed so_far.progress (old.next + 2) list
+    pub final_walk : (now : Table) (list : ListCode) (new : Walk) → Entered (Ok true) (outcome_in run choice so_far.progress.records (placed_here old.rank journal old.next word)) so_far.handed so_far.progress (old.next + 2) list
         → HasEnded old (old.next + 2) list Finalize None new → IsWalk run choice now new
     final_walk now list new entered is =
         ended_walk now (old.next + 2) list Finalize None new is
@@ -142,14 +143,14 @@ module _ (run : Run) (choice : Choice) (journal : Journal) (table : Table) (old 
 
     -- one at which the list is left
     pub broken_walk : (now : Table) (list : ListCode) (why : Why) (new : Walk)
-        → Entered (Err (Left why)) (outcome_of run choice (placed_here old.rank journal old.next word)) so_far.handed so_far.progress (old.next + 2) list
+        → Entered (Err (Left why)) (outcome_in run choice so_far.progress.records (placed_here old.rank journal old.next word)) so_far.handed so_far.progress (old.next + 2) list
         → HasEnded old (old.next + 2) list Open (Some why) new → IsWalk run choice now new
     broken_walk now list why new entered is =
         ended_walk now (old.next + 2) list Open (Some why) new is
         (entry_leaves run choice journal table now old new word so_far call before list why (omega (arith, count_is)) entered)
 
-    pub next_walk : (now : Table) (new : Walk) → Entered (Ok false) (outcome_of run choice (placed_here old.rank journal old.next word)) so_far.handed so_far.progress (old.next + 2) new.list
-        → ((steps : List Step) → outcome_of run choice (placed_here old.rank journal old.next word) ≡ GoesOn steps
+    pub next_walk : (now : Table) (new : Walk) → Entered (Ok false) (outcome_in run choice so_far.progress.records (placed_here old.rank journal old.next word)) so_far.handed so_far.progress (old.next + 2) new.list
+        → ((steps : List Step) → outcome_in run choice so_far.progress.records (placed_here old.rank journal old.next word) ≡ GoesOn steps
         → StaysOn now journal.lines (place_after journal.lines old.next) (after_steps so_far.progress (old.next + 2) steps).late new) → HasNext journal.lines old new → IsWalk run choice now new
     next_walk now new entered stays is = record {
       part = part_of_on run choice now new on is.goes;

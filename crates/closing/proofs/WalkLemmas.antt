@@ -11,7 +11,8 @@ use Rattle.closing.specs.Entries.{Run, Placed, journal_at}
 use Rattle.closing.specs.Entry.{Choice, matched_message}
 use Rattle.closing.specs.Fit.{EntriesFit, TestsFit}
 use Rattle.closing.specs.Steps.{Own, Step, after_steps}
-use Rattle.closing.specs.Recording.{Listed, GoesOn, cut, ended, list_from, list_of, most_records, outcome_of, whole_list, without_journal}
+use Rattle.closing.specs.Recording.{Listed, cut, ended, list_from, list_of, most_records, outcome_in, whole_list, without_journal}
+use Rattle.closing.specs.Sinks.{GoesOn}
 use Rattle.closing.specs.Recordings.{left_in}
 use Rattle.closing.specs.inner.Holds.{HasComms}
 use Rattle.closing.specs.inner.Lists.{Handed}
@@ -158,22 +159,22 @@ module _ (run : Run) (choice : Choice) (journal : Journal) (table now : Table) (
 
   -- with one with which the list goes on, it does
   pub entry_goes_on : (before : ℕ) → length so_far.progress.records ≤ before
-      → Entered (Ok false) (outcome_of run choice placed) so_far.handed so_far.progress placed.line new.list
-      → ((steps : List Step) → outcome_of run choice placed ≡ GoesOn steps → IsNext placed.line before steps) → journal_at run old.rank ≡ Some journal → IsOn run choice now new
+      → Entered (Ok false) (outcome_in run choice so_far.progress.records placed) so_far.handed so_far.progress placed.line new.list
+      → ((steps : List Step) → outcome_in run choice so_far.progress.records placed ≡ GoesOn steps → IsNext placed.line before steps) → journal_at run old.rank ≡ Some journal → IsOn run choice now new
   entry_goes_on before count entered is at =
       let came = entered_on run choice placed (entries_left old.rank journal after) (whole_list run choice old.rank) so_far.handed before so_far.progress new.list list_left fit_left tests_left count entered in
       goes_on before came.0 came.1.1 (is came.0 came.1.0) at
 
   -- the rank's last call
   pub entry_ends : (before : ℕ) (list : ListCode) → length so_far.progress.records ≤ before
-      → Entered (Ok true) (outcome_of run choice placed) so_far.handed so_far.progress placed.line list
+      → Entered (Ok true) (outcome_in run choice so_far.progress.records placed) so_far.handed so_far.progress placed.line list
       → IsEnded (cut (whole_list run choice old.rank)) so_far.handed list Finalize before placed.line None
   entry_ends before list count entered =
       entered_end run choice placed (entries_left old.rank journal after) (whole_list run choice old.rank) so_far.handed before so_far.progress list list_left count entered
 
   -- one at which the list is left
   pub entry_leaves : (before : ℕ) (list : ListCode) (why : Why) → length so_far.progress.records ≤ before
-      → Entered (Err (Left why)) (outcome_of run choice placed) so_far.handed so_far.progress placed.line list
+      → Entered (Err (Left why)) (outcome_in run choice so_far.progress.records placed) so_far.handed so_far.progress placed.line list
       → IsEnded (cut (whole_list run choice old.rank)) so_far.handed list Open before placed.line (Some why)
   entry_leaves before list why count entered =
       entered_left run choice placed (entries_left old.rank journal after) (whole_list run choice old.rank) so_far.handed before so_far.progress list why list_left count entered

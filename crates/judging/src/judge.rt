@@ -19,12 +19,14 @@ ghost use Rattle.judging.specs.inner.Unwritten.{IsOfRecording, IsUnwritten};
 ghost use Rattle.judging.specs.declared.judge.JudgeFault.TheVariants.{Memory};
 
 use crate::head::head_text;
+use crate::known::{Known, known_of};
 use crate::read::{Journals, ReadFault, read_journals};
 use crate::reported::reported_findings;
 use crate::spots::lines_of;
 use crate::turns::{LineTable, Lists};
-use closing::choice::Choice;
+use closing::choice::{Choice, Unreported};
 use closing::recording::Recording;
+use closing::walk::Left;
 use closing::why::Why;
 use findings::finding::Finding;
 use gather::fault::Refusal;
@@ -33,7 +35,8 @@ use moves::reading::Reading;
 use mpicall::device::Output;
 use mpigroup::fault::{HeadFault, ReadFault as HeadReadFault};
 use mpigroup::head::Head;
-use report::judged::{Judged, LeftAt, LineAt, write_judged};
+use report::judged::{Judged, LeftAt, LineAt};
+use report::pending::{PendingRun, write_pending};
 use report::write::{Format, ReportFault};
 use std::alloc::{AllocError, AllocFailed, Global};
 use std::sync::Wait;
@@ -111,6 +114,14 @@ fn has_lines(format: Format) -> bool
     matches!(format, Format::Json)
 }
 
+/// As they are judged, lists go on behind receives whose messages aren't known.
+fn with_sinks(choice: Choice) -> Choice {
+    Choice {
+        unreported: Unreported::Sinks,
+        ..choice
+    }
+}
+
 /// The recording of the journals of a run, of which no list is made yet.
 fn lists_of<J: Journals>(
     alloc: Global,
@@ -129,7 +140,7 @@ fn lists_of<J: Journals>(
         Ok(journals) => journals,
         Err(fault) => return Err(of_reading(fault)),
     };
-    let recording = Recording::of(alloc, journals, manner.choice)?;
+    let recording = Recording::of(alloc, journals, with_sinks(manner.choice))?;
     let table = LineTable::new(alloc, recording.ranks(), has_lines(manner.format))?;
     Ok(Lists { recording, table })
 }
@@ -155,12 +166,17 @@ fn analyser_of(alloc: Global, lists: &mut Lists, reading: Reading) -> Result<Ana
 }
 
 /// Who waits for whom, and why.
-fn graph_of(alloc: Global, analyser: &Analyser) -> Result<Graph, JudgeFault>
+fn graph_of(alloc: Global, analyser: &Analyser, known: &Known) -> Result<Graph, JudgeFault>
     requires { IsClosed analyser.now.recording }
     ensures graph { IfOk result (IsGraphOf analyser.now.reading analyser.now.groups analyser.now.recording) }
     ensures fault { IfErr result (λ fault. fault ≡ Memory) }
 {
-    match Graph::of(alloc, analyser) {
+    match Graph::of_pending(
+        alloc,
+        analyser,
+        known.pending.as_slice(),
+        known.sinks.as_slice(),
+    ) {
         Ok(graph) => Ok(graph),
         Err(_) => Err(JudgeFault::Memory),
     }
@@ -181,11 +197,28 @@ fn why_text(why: Why) -> &'static str
         Why::Stopped => "stopped",
         Why::Aborted => "aborted",
         Why::Full => "full",
+        Why::NotJudged => "not judged",
         Why::NoJournal => "no journal",
     }
 }
 
-/// At which lines, and why, lists ended before their ends.
+fn left_at(rank: u16, left: Left) -> LeftAt {
+    LeftAt {
+        rank,
+        line: left.line,
+        why: why_text(left.why),
+    }
+}
+
+/// Adds the entries of a rank that stand in no line of their own.
+fn add_left_out(all: &mut Vec<LeftAt>, rank: u16, left_out: &[Left]) -> Result<(), AllocError> {
+    for left in left_out {
+        all.push(left_at(rank, *left))?;
+    }
+    Ok(())
+}
+
+/// At which lines, and why, lists ended before their ends, and entries stand in no line of their own.
 fn left_of(alloc: Global, recording: &Recording) -> Result<Vec<LeftAt>, AllocError>
     ensures short { IfOk result (λ all. All (λ one. length one.why.now ≤ MOST_WORDS) all.items) }
     ensures left { IfOk result (λ all. IsDone recording.now → map left_said all.items
@@ -193,13 +226,9 @@ fn left_of(alloc: Global, recording: &Recording) -> Result<Vec<LeftAt>, AllocErr
 {
     let mut all = Vec::new(alloc);
     for rank in 0..recording.ranks() {
+        add_left_out(&mut all, rank, recording.left_out(rank))?;
         if let Some(left) = recording.left(rank) {
-            let why = why_text(left.why);
-            all.push(LeftAt {
-                rank,
-                line: left.line,
-                why,
-            })?;
+            all.push(left_at(rank, left))?;
         }
     }
     Ok(all)
@@ -212,6 +241,7 @@ fn lines_in(
     analyser: &Analyser,
     graph: &Graph,
     findings: &[Finding],
+    known: &Known,
     manner: Manner,
 ) -> Result<Vec<LineAt>, AllocError>
     requires reading { analyser.now.reading ≡ manner.reading }
@@ -219,7 +249,7 @@ fn lines_in(
     ensures { IfOk result (λ lines. IsLined (rows_of lists.now.table) manner analyser.now findings.now lines.items) }
 {
     match manner.format {
-        Format::Json => lines_of(alloc, analyser, graph, findings, &lists.table),
+        Format::Json => lines_of(alloc, analyser, graph, known, findings, &lists.table),
         Format::Text => Ok(Vec::new(alloc)),
     }
 }
@@ -229,6 +259,7 @@ fn write_report<O: Output>(
     alloc: Global,
     analyser: &Analyser,
     graph: &Graph,
+    known: &Known,
     judged: &Judged<'_>,
     manner: Manner,
     out: &mut O,
@@ -244,7 +275,12 @@ fn write_report<O: Output>(
 {
     let verdict = graph.verdict();
     let _head = analyser.head();
-    match write_judged(alloc, analyser, graph, judged, manner.format, out) {
+    let run = PendingRun {
+        analyser,
+        graph,
+        pending: known.pending.as_slice(),
+    };
+    match write_pending(alloc, &run, judged, manner.format, out) {
         Ok(()) => Ok(verdict),
         Err(ReportFault::Memory) => Err(JudgeFault::Memory),
         Err(ReportFault::Write) => Err(JudgeFault::Write),
@@ -258,6 +294,7 @@ fn report<O: Output>(
     lists: &Lists,
     analyser: &Analyser,
     graph: &Graph,
+    known: &Known,
     manner: Manner,
     out: &mut O,
 ) -> Result<Verdict, JudgeFault>
@@ -272,13 +309,21 @@ fn report<O: Output>(
     let recording = &lists.recording;
     let findings = reported_findings(alloc, recording, manner.choice, graph.findings())?;
     let left = left_of(alloc, recording)?;
-    let lines = lines_in(alloc, lists, analyser, graph, findings.as_slice(), manner)?;
+    let lines = lines_in(
+        alloc,
+        lists,
+        analyser,
+        graph,
+        findings.as_slice(),
+        known,
+        manner,
+    )?;
     let judged = Judged {
         findings: findings.as_slice(),
         left: left.as_slice(),
         lines: lines.as_slice(),
     };
-    write_report(alloc, analyser, graph, &judged, manner, out)
+    write_report(alloc, analyser, graph, known, &judged, manner, out)
 }
 
 /// Judges the journals of a run, and writes the report of their recording.
@@ -297,6 +342,7 @@ pub fn judge<J: Journals, O: Output>(
 {
     let mut lists = lists_of(alloc, journals, manner, wait)?;
     let analyser = analyser_of(alloc, &mut lists, manner.reading)?;
-    let graph = graph_of(alloc, &analyser)?;
-    report(alloc, &lists, &analyser, &graph, manner, out)
+    let known = known_of(alloc, &lists.recording)?;
+    let graph = graph_of(alloc, &analyser, &known)?;
+    report(alloc, &lists, &analyser, &graph, &known, manner, out)
 }

@@ -8,6 +8,7 @@ ghost use Rattle.judging.specs.NamedCalls.{HaveLines, HaveNumbers, call_at, call
 ghost use Rattle.judging.specs.inner.Spots.{spot_cmp, with_call, with_calls};
 ghost use Rattle.judging.specs.inner.Tables.{line_of_spot, rows_of};
 
+use crate::known::Known;
 use crate::reported::Spot;
 use crate::turns::LineTable;
 use callstore::request::completes;
@@ -17,7 +18,9 @@ use moves::need::{Need, stand_of};
 use report::judged::LineAt;
 use std::alloc::{AllocError, Global};
 use std::collections::BTreeSet;
+use waitgraph::awaited::Awaited;
 use waitgraph::graph::Graph;
+use waitgraph::pending::Item;
 
 /// Adds a call.
 fn add(spots: &mut BTreeSet<Spot>, rank: u16, place: u32) -> Result<(), AllocError>
@@ -105,6 +108,68 @@ fn add_all_stuck(
 {
     for rank in ranks {
         add_stuck(spots, analyser, graph, *rank)?;
+    }
+    Ok(())
+}
+
+/// Adds what an item of a held rank's pending call waits for.
+fn add_awaited(spots: &mut BTreeSet<Spot>, awaited: &Awaited) -> Result<(), AllocError> {
+    match awaited {
+        Awaited::Call(need) => add_need(spots, need),
+        Awaited::Rank { .. } | Awaited::Nobody => Ok(()),
+    }
+}
+
+/// Adds the start of the request that an item is.
+fn add_item(
+    spots: &mut BTreeSet<Spot>,
+    analyser: &Analyser,
+    rank: u16,
+    item: &Item,
+) -> Result<(), AllocError> {
+    match *item {
+        Item::Request(number) => {
+            add_there(spots, rank, analyser.pairs().active_start(rank, number))
+        }
+        Item::Message(_) => Ok(()),
+    }
+}
+
+/// Adds what is awaited at an open.
+fn add_all_awaited(spots: &mut BTreeSet<Spot>, all: &[Awaited]) -> Result<(), AllocError> {
+    for awaited in all {
+        add_awaited(spots, awaited)?;
+    }
+    Ok(())
+}
+
+/// Adds what a report names of a held rank that stands at its open.
+fn add_at_open(
+    spots: &mut BTreeSet<Spot>,
+    analyser: &Analyser,
+    graph: &Graph,
+    known: &Known,
+    rank: u16,
+) -> Result<(), AllocError> {
+    add(spots, rank, stand_of(analyser.stands(), rank))?;
+    add_all_awaited(spots, graph.at_open(rank))?;
+    for item in known.items(rank) {
+        add_item(spots, analyser, rank, item)?;
+    }
+    Ok(())
+}
+
+/// Adds what a report names of the held ranks that stand at their opens.
+fn add_all_at_open(
+    spots: &mut BTreeSet<Spot>,
+    analyser: &Analyser,
+    graph: &Graph,
+    known: &Known,
+) -> Result<(), AllocError> {
+    for rank in graph.held() {
+        if !graph.at_open(*rank).is_empty() {
+            add_at_open(spots, analyser, graph, known, *rank)?;
+        }
     }
     Ok(())
 }
@@ -205,6 +270,7 @@ pub(crate) fn lines_of(
     alloc: Global,
     analyser: &Analyser,
     graph: &Graph,
+    known: &Known,
     findings: &[Finding],
     table: &LineTable,
 ) -> Result<Vec<LineAt>, AllocError>
@@ -214,6 +280,7 @@ pub(crate) fn lines_of(
 {
     let mut spots = BTreeSet::new(alloc);
     add_all_stuck(&mut spots, analyser, graph, graph.stuck())?;
+    add_all_at_open(&mut spots, analyser, graph, known)?;
     add_findings(&mut spots, analyser, findings)?;
     lines_at(alloc, &spots, table)
 }

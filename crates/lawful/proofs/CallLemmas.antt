@@ -18,7 +18,8 @@ use Rattle.closing.specs.Numbers.{groups_of, number_of, rank_in, preface_split, 
 use Rattle.closing.specs.Steps.{Written, Progress, WaitsForLate, after_steps}
 use Rattle.closing.specs.Endings.{breaks_off, can_be, first_of, is_unknown, is_unreported, lacks_number, why_at}
 use Rattle.closing.specs.Entry.{Choice, steps_of}
-use Rattle.closing.specs.Recording.{Listed, Outcome, GoesOn, Ends, is_end, steps_before, outcome_by, outcome_of, go_on, list_from, progress_first, whole_list, most_records, line_of, cut, without_journal, list_of, calls_of}
+use Rattle.closing.specs.Recording.{Listed, is_end, steps_before, outcome_by, outcome_in, go_on, list_from, progress_first, whole_list, most_records, line_of, cut, without_journal, list_of, calls_of}
+use Rattle.closing.specs.Sinks.{Outcome, GoesOn, Ends}
 use Rattle.closing.specs.declared.why.Why.{Why}
 use Rattle.closing.specs.declared.why.Why.TheVariants.{NeverCameBack, NeverReported, Failed, NoNumber, CannotBe, TooLong}
 use Rattle.lawful.proofs.StepLemmas.{calls_in, plain_calls}
@@ -84,7 +85,7 @@ waits_name run = record {
 list_names : (run : Run) (choice : Choice) (entries : List Placed) (progress : Progress) → AllCalls (Names (groups_of run)) (calls_in progress) → AllCalls (Names (groups_of run)) (map (λ one. one.call) (list_from run choice progress entries).records)
 list_names run choice [] progress all = all
 list_names run choice (placed ∷ others) progress all =
-    on_outcome (Names (groups_of run)) progress placed.line (outcome_of run choice placed) (λ new. list_from run choice new others) (waits_name run)
+    on_outcome (Names (groups_of run)) progress placed.line (outcome_in run choice progress.records placed) (λ new. list_from run choice new others) (waits_name run)
     (outcome_names run choice placed (why_at run placed) refl) all (λ new every. list_names run choice others new every)
 
 -- ---- The preface ----

@@ -10,7 +10,8 @@ use Rattle.closing.specs.Entries.{Run, Placed, journal_at, entries_in, entries_a
 use Rattle.closing.specs.Entry.{Choice, steps_of}
 use Rattle.closing.specs.Endings.{why_at}
 use Rattle.closing.specs.Steps.{WaitsForLate, Progress, after_steps}
-use Rattle.closing.specs.Recording.{Listed, GoesOn, Ends, is_end, outcome_by, go_on, list_from, progress_first, whole_list, most_records, line_of, cut, without_journal}
+use Rattle.closing.specs.Recording.{Listed, is_end, outcome_by, go_on, list_from, progress_first, whole_list, most_records, line_of, cut, without_journal}
+use Rattle.closing.specs.Sinks.{GoesOn, Ends}
 use Rattle.closing.specs.declared.why.Why.{Why}
 use Rattle.closing.specs.declared.why.Why.TheVariants.{NoJournal, TooLong}
 use Rattle.lawful.specs.Free.{AreGoneThrough, EachFinalizeIsAnEnd, WhatIsLeftIsOpen, WhatIsNotLeftIsAnEnd}

@@ -12,7 +12,8 @@ use Rattle.closing.specs.Numbers.{number_of, rank_in, preface_split, preface_lin
 use Rattle.closing.specs.Steps.{Written, Progress, Step, WaitsForLate, after_steps}
 use Rattle.closing.specs.Endings.{why_at}
 use Rattle.closing.specs.Entry.{Choice, steps_of}
-use Rattle.closing.specs.Recording.{Listed, Outcome, GoesOn, Ends, is_end, steps_before, outcome_by, outcome_of, go_on, list_from, progress_first, whole_list, most_records, line_of, cut, without_journal, list_of}
+use Rattle.closing.specs.Recording.{Listed, is_end, steps_before, outcome_by, outcome_of, go_on, list_from, progress_first, whole_list, most_records, line_of, cut, without_journal, list_of}
+use Rattle.closing.specs.Sinks.{Outcome, GoesOn, Ends}
 use Rattle.closing.specs.declared.why.Why.{Why}
 use Rattle.closing.specs.declared.why.Why.TheVariants.{NeverReported, TooLong}
 use Rattle.lawful.proofs.RequestLemmas.{AreActive, IsPlain, AllFit, plain_keeps, plain_fits}

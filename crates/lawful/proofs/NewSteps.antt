@@ -9,10 +9,11 @@ use Rattle.mpicall.specs.declared.call.Kind.TheVariants as kind
 use Rattle.closing.specs.Called.{Called, Sent, Sends, StartsSend, Receives, StartsReceive, Exchanges, StartsExchange, Probes, ProbesMatching, Collects, StartsCollective, Duplicates, StartsDuplicate, Splits, Makes, MakesOfGroup}
 use Rattle.closing.specs.Entries.{Run, Placed}
 use Rattle.closing.specs.Reported.{Message, is_gone}
-use Rattle.closing.specs.Steps.{Id, Own, Whole, ReceiveHalf, Progress, Step, Does, Starts, WaitsForAll, WaitsForOne, PutsOff, WaitsForLate, same_id, number_in, without, without_all, numbers_of, wait_one, after_step, after_steps}
+use Rattle.closing.specs.Steps.{Id, Own, Whole, ReceiveHalf, Sink, Progress, Step, Does, Starts, WaitsForAll, WaitsForOne, PutsOff, WaitsForLate, same_id, number_in, without, without_all, numbers_of, wait_one, after_step, after_steps}
 use Rattle.closing.specs.Endings.{number_at}
 use Rattle.closing.specs.Entry.{Choice, Here, send, start_send, receive, start_receive, exchange, probe, start_collective, kind_of, is_past, here_at, does, does_both, starts, knowing, unless_past, on_comm, on_none, steps_by, steps_of}
-use Rattle.closing.specs.Recording.{Outcome, GoesOn, is_end, steps_before, outcome_by}
+use Rattle.closing.specs.Recording.{is_end, steps_before, outcome_by}
+use Rattle.closing.specs.Sinks.{Outcome, GoesOn}
 use Rattle.closing.specs.declared.why.Why.{Why}
 use Rattle.closing.specs.declared.why.Why.TheVariants.{NeverReported}
 use Rattle.lawful.proofs.StepLemmas.{AreSaid}
@@ -76,6 +77,9 @@ steps_fit Free Left progress line (Starts (Whole own) call ∷ steps) said are n
 steps_fit Free Left progress line (Starts (ReceiveHalf own) call ∷ steps) said are new none =
     let rest = steps_fit Free Left (after_step progress line (Starts (ReceiveHalf own) call)) line steps said.1 are.1 new none in
     ((are.0 0 (rw (said.0 0).starts_it refl), rest.0), rest.1)
+steps_fit Free Left progress line (Starts (Sink own wanted is_known) call ∷ steps) said are new none =
+    let rest = steps_fit Free Left (after_step progress line (Starts (Sink own wanted is_known) call)) line steps said.1 are.1 new none in
+    ((are.0 0 (rw (said.0 0).starts_it refl), rest.0), rest.1)
 steps_fit Free Left progress line (WaitsForAll ids ∷ steps) said are new none =
     let rest = steps_fit Free Left (after_step progress line (WaitsForAll ids)) line steps said.1 are.1 new
     (λ number free. without_all_none (numbers_of progress.active ids) progress.active (Own number) (none number free)) in
@@ -104,6 +108,7 @@ new_more Free More Left (Starts (Own request) call ∷ steps) le new =
     (le request new.0, new_more (But request Free) (But request More) Left steps (λ number but. (le number but.0, but.1)) new.1)
 new_more Free More Left (Starts (Whole line) call ∷ steps) le new = new_more Free More Left steps le new
 new_more Free More Left (Starts (ReceiveHalf line) call ∷ steps) le new = new_more Free More Left steps le new
+new_more Free More Left (Starts (Sink own wanted is_known) call ∷ steps) le new = new_more Free More Left steps le new
 new_more Free More Left (Does call ∷ steps) le new = new_more Free More Left steps le new
 new_more Free More Left (WaitsForAll ids ∷ steps) le new = new_more Free More Left steps le new
 new_more Free More Left (WaitsForOne id ids ∷ steps) le new = new_more Free More Left steps le new
@@ -115,6 +120,7 @@ new_append Free Mid Left [] ys first others = new_more Mid Free Left ys first ot
 new_append Free Mid Left (Starts (Own request) call ∷ xs) ys first others = (first.0, new_append (But request Free) Mid Left xs ys first.1 others)
 new_append Free Mid Left (Starts (Whole line) call ∷ xs) ys first others = new_append Free Mid Left xs ys first others
 new_append Free Mid Left (Starts (ReceiveHalf line) call ∷ xs) ys first others = new_append Free Mid Left xs ys first others
+new_append Free Mid Left (Starts (Sink own wanted is_known) call ∷ xs) ys first others = new_append Free Mid Left xs ys first others
 new_append Free Mid Left (Does call ∷ xs) ys first others = new_append Free Mid Left xs ys first others
 new_append Free Mid Left (WaitsForAll ids ∷ xs) ys first others = new_append Free Mid Left xs ys first others
 new_append Free Mid Left (WaitsForOne id ids ∷ xs) ys first others = new_append Free Mid Left xs ys first others

@@ -12,7 +12,8 @@ use Rattle.journals.specs.declared.word.ReportWord.TheVariants as report
 use Rattle.closing.specs.Called.{Called, Sent, Sends, StartsSend, Receives, StartsReceive, Exchanges, StartsExchange, Probes, ProbesMatching, ReceivesMatched, Waits, Tests, WaitsAny, WaitsSome, Collects, StartsCollective, Duplicates, StartsDuplicate, Splits, Makes, MakesOfGroup}
 use Rattle.closing.specs.Entries.{Run, Placed}
 use Rattle.closing.specs.Reported.{Message, is_gone}
-use Rattle.closing.specs.Steps.{Id, Own, Whole, ReceiveHalf, Step, Does, Starts, WaitsForAll, WaitsForOne, PutsOff, WaitsForLate}
+use Rattle.closing.specs.declared.pending.Wanted.{Wanted}
+use Rattle.closing.specs.Steps.{Id, Own, Whole, ReceiveHalf, Sink, Step, Does, Starts, WaitsForAll, WaitsForOne, PutsOff, WaitsForLate}
 use Rattle.closing.specs.Entry.{Choice, Here, send, start_send, receive, start_receive, exchange, probe, start_collective, kind_of, is_past, here_at, does, does_both, starts, knowing, unless_past, on_comm, on_none, steps_by, ids_of, is_of_send, matched_message, wait_for_all, pass_test, passes_tests, chosen, wait_for_one, wait_for_any}
 use Rattle.lawful.proofs.PassLemmas.{AreSteps}
 use Rattle.lawful.proofs.ActiveSends.{AllSteps, NotIn, Keeps}
@@ -22,6 +23,7 @@ pub record PassOthers (S : Step → Type 0) : Type 0 where
   pub does : (call : Call) → S (Does call)
   pub whole : (line : ℕ) (call : ℕ → Call) → S (Starts (Whole line) call)
   pub half : (line : ℕ) (call : ℕ → Call) → S (Starts (ReceiveHalf line) call)
+  pub sink : (own : Option ℕ) (wanted : Wanted) (is_known : Bool) (call : ℕ → Call) → S (Starts (Sink own wanted is_known) call)
 
 -- so do the steps that start the own requests of a call
 abbrev pub PassOwn : (Step → Type 0) → Called → Type 0

@@ -27,7 +27,8 @@ use Rattle.closing.specs.Reported.{Message, got_in, done_of, message_of}
 use Rattle.closing.specs.Steps.{Written, Progress, Step, WaitsForLate, after_steps}
 use Rattle.closing.specs.Endings.{awaited_at, message_at, awaited_can_be, sends_can_be, can_be, size_at, number_at, why_at}
 use Rattle.closing.specs.Entry.{Choice, is_past, here_at, on_none, parent_group, steps_by, steps_of}
-use Rattle.closing.specs.Recording.{Listed, Outcome, GoesOn, Ends, is_end, steps_before, outcome_by, outcome_of, go_on, list_from, progress_first, whole_list, most_records, line_of, cut, without_journal, list_of, calls_of, recording_of}
+use Rattle.closing.specs.Recording.{Listed, is_end, steps_before, outcome_by, outcome_in, go_on, list_from, progress_first, whole_list, most_records, line_of, cut, without_journal, list_of, calls_of, recording_of}
+use Rattle.closing.specs.Sinks.{Outcome, GoesOn, Ends}
 use Rattle.closing.specs.declared.why.Why.{Why}
 use Rattle.closing.specs.declared.why.Why.TheVariants.{NeverReported, TooLong}
 use Rattle.lawful.specs.Closed.{EachListIsInRanges}
@@ -211,7 +212,7 @@ on_outcome progress line (Ends steps end why) others ok ranges rest = (steps_ran
 list_ranged : (run : Run) (choice : Choice) (entries : List Placed) (progress : Progress) → RunFull run → EntriesFull run entries → InRanges progress → RecordsRanged (list_from run choice progress entries)
 list_ranged run choice [] progress full all ranges = ranges.ranged
 list_ranged run choice (placed ∷ entries) progress full all ranges =
-    on_outcome progress placed.line (outcome_of run choice placed) (λ new. list_from run choice new entries)
+    on_outcome progress placed.line (outcome_in run choice progress.records placed) (λ new. list_from run choice new entries)
     (outcome_ok run choice placed (why_at run placed) refl full all.0) ranges (λ new new_ranges. list_ranged run choice entries new full all.1 new_ranges)
 
 -- ---- The preface ----

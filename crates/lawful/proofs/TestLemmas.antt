@@ -28,10 +28,12 @@ use Rattle.closing.specs.RankComms.{RankComms, comms_first, after_line}
 use Rattle.closing.specs.Entries.{Run, Placed, journal_at, placed_at, entries_from, entries_in, entries_at}
 use Rattle.closing.specs.Reported.{is_gone}
 use Rattle.closing.specs.Numbers.{preface_of}
-use Rattle.closing.specs.Steps.{Id, Own, Whole, ReceiveHalf, Written, Progress, Step, Does, Starts, WaitsForAll, WaitsForOne, PutsOff, WaitsForLate, number_in, numbers_of, least_free, wait_for_one, waits_for, wait_one, plain, after_step, after_steps}
+use Rattle.closing.specs.declared.pending.Wanted.{Wanted}
+use Rattle.closing.specs.Steps.{Id, Own, Whole, ReceiveHalf, Sink, Written, Progress, Step, Does, Starts, WaitsForAll, WaitsForOne, PutsOff, WaitsForLate, number_in, numbers_of, least_free, wait_for_one, waits_for, wait_one, plain, after_step, after_steps}
 use Rattle.closing.specs.Endings.{needs_number, number_at, why_at}
 use Rattle.closing.specs.Entry.{Choice, Here, here_at, start_send, start_receive, knowing, starts, on_comm, on_none, is_past, steps_by, steps_of, matched_message, starts_send_with, is_of_send, passes_tests, chosen}
-use Rattle.closing.specs.Recording.{GoesOn, Ends, is_end, outcome_by, progress_first}
+use Rattle.closing.specs.Recording.{is_end, outcome_by, progress_first}
+use Rattle.closing.specs.Sinks.{GoesOn, Ends}
 use Rattle.closing.specs.declared.choice.Calls.{Calls}
 use Rattle.closing.specs.declared.choice.Calls.TheVariants as calls
 use Rattle.closing.specs.declared.choice.Tests.{Tests as TestsChoice}
@@ -84,6 +86,9 @@ whole_not line request h = cc
 half_not : (line request : ℕ) → ◌≡◌ {A = Option Id} (Some (ReceiveHalf line)) (Some (Own request)) → ⊥
 half_not line request h = cc
 
+sink_not : (own : Option ℕ) (wanted : Wanted) (is_known : Bool) (request : ℕ) → ◌≡◌ {A = Option Id} (Some (Sink own wanted is_known)) (Some (Own request)) → ⊥
+sink_not own wanted is_known request h = cc
+
 one_written : (P : ℕ → Bool → Type 0) (progress : Progress) (line : ℕ) (o : Option ℕ) (numbers : List ℕ) → AllWritten P progress.records → AllWritten P (wait_one progress line o numbers).records
 one_written P progress line None numbers all = all
 one_written P progress line (Some number) numbers all =
@@ -98,6 +103,8 @@ step_written P progress line (Starts (Whole own) call) kind all =
     written_append P progress.records _ all ((λ other h. absurd (whole_not own other h)), tt)
 step_written P progress line (Starts (ReceiveHalf own) call) kind all =
     written_append P progress.records _ all ((λ other h. absurd (half_not own other h)), tt)
+step_written P progress line (Starts (Sink own wanted is_known) call) kind all =
+    written_append P progress.records _ all ((λ other h. absurd (sink_not own wanted is_known other h)), tt)
 step_written P progress line (WaitsForAll ids) kind all =
     let numbers = numbers_of progress.active ids in
     written_append P progress.records (plain line (waits_for (length numbers) numbers)) all (written_plain P line (waits_for (length numbers) numbers))

@@ -27,7 +27,8 @@ use Rattle.closing.specs.Numbers.{groups_of}
 use Rattle.closing.specs.Steps.{Step, Does, WaitsForLate, Progress, after_steps}
 use Rattle.closing.specs.Endings.{breaks_off, can_be, first_of, is_unknown, is_unreported, lacks_number, needs_number, number_at, why_at}
 use Rattle.closing.specs.Entry.{Choice, Here, here_at, maker, on_comm, steps_by, steps_of}
-use Rattle.closing.specs.Recording.{Listed, GoesOn, Ends, is_end, steps_before, outcome_by, outcome_of, go_on, list_from}
+use Rattle.closing.specs.Recording.{Listed, is_end, steps_before, outcome_by, outcome_of, go_on, list_from}
+use Rattle.closing.specs.Sinks.{GoesOn, Ends}
 use Rattle.closing.specs.declared.why.Why.{Why}
 use Rattle.closing.specs.declared.why.Why.TheVariants.{NeverCameBack, NeverReported, Failed, NoNumber, CannotBe}
 use Rattle.lawful.proofs.StepLemmas.{calls_in, added_plain}

@@ -17,7 +17,8 @@ use Rattle.closing.specs.RankComms.{RankComms, comms_first, after_lines}
 use Rattle.closing.specs.Entries.{Run, Placed, placed_at, entries_from, journal_at, lines_at}
 use Rattle.closing.specs.Entry.{Choice, matched_message}
 use Rattle.closing.specs.Steps.{Id, Own, Written, Progress, Step, after_steps}
-use Rattle.closing.specs.Recording.{Listed, Outcome, GoesOn, Ends, calls_of, list_from, list_of, outcome_of, whole_list}
+use Rattle.closing.specs.Recording.{Listed, calls_of, list_from, list_of, outcome_in, whole_list}
+use Rattle.closing.specs.Sinks.{Outcome, GoesOn, Ends}
 use Rattle.closing.specs.Fit.{EntriesFit, IsFit, TestsFit}
 use Rattle.closing.specs.Freed.{is_freed}
 use Rattle.closing.specs.Recordings.{left_in, line_at}
@@ -26,7 +27,9 @@ use Rattle.closing.specs.inner.Lists.{Handed, HasPlaces, Stands}
 use Rattle.closing.specs.inner.Noted.{AreReports, IsLastCall, reports_in}
 use Rattle.closing.specs.inner.Numbered.{IsNumberedRun}
 use Rattle.closing.specs.inner.RequestReports.{Tells}
+use Rattle.closing.specs.inner.Sinks.{HasSinks}
 use Rattle.closing.specs.inner.Standings.{message_for}
+use Rattle.closing.specs.inner.Taken.{IsKnown}
 use Rattle.closing.specs.Table.{Table}
 use Rattle.closing.specs.inner.Table.{Grows, IsPlaceOf, IsWaveOf}
 use Rattle.closing.specs.inner.Walked.{Follows, IsAt, number_of, size_of}
@@ -77,6 +80,7 @@ pub record IsSoFar (run : Run) (choice : Choice) (journal : Journal) (table : Ta
   pub frees : handed.frees ≡ is_freed journal.lines
   pub stands : Stands handed progress walk.list
   pub late : map Own walk.late.items ≡ progress.late
+  pub sinks : HasSinks progress.records walk.sinks
   pub list : list_from run choice progress (entries_left walk.rank journal walk.next) ≡ whole_list run choice walk.rank
   pub fit : EntriesFit run choice progress (entries_left walk.rank journal walk.next)
   pub tests : TestsFit run choice progress (entries_left walk.rank journal walk.next)
@@ -115,6 +119,7 @@ pub record IsWalk (run : Run) (choice : Choice) (table : Table) (walk : Walk) : 
   pub part : IsPart (list_of run choice walk.rank) walk
   pub on : walk.is_over ≡ false → IsOn run choice table walk
   pub freed : walk.is_over ≡ true → HasPlaces (is_freed (lines_at run walk.rank)) (list_of run choice walk.rank).records walk.list.freed
+  pub known : walk.is_over ≡ true → IsKnown run choice walk
 
 -- ---- An entry ----
 
@@ -163,6 +168,7 @@ Entered (Err stop) outcome handed progress line it = Follows {A = Bool} outcome 
 -- what else is known of a rank at an entry: how far its list came, and that the entry fits
 pub record IsReady (run : Run) (choice : Choice) (journal : Journal) (handed : Handed) (progress : Progress) (walk : Walk) (entry : EntryCode) : Type 0 where
   pub fit : IsFit run choice
+  pub sinks : HasSinks progress.records walk.sinks
   pub stands : Stands handed progress walk.list
   pub late : map Own walk.late.items ≡ progress.late
   pub entries : EntriesFit run choice progress (entries_left walk.rank journal entry.place)
@@ -171,14 +177,15 @@ pub record IsReady (run : Run) (choice : Choice) (journal : Journal) (handed : H
   pub requests : (request : ℕ) → message_for walk.requests request ≡ matched_message (take entry.place journal.lines) request
 
 -- what is kept after an entry with which the list goes on
-pub record StaysOn (table : Table) (lines : List Line) (place : ℕ) (late : List Id) (walk : Walk) : Type 0 where
+pub record StaysOn (table : Table) (lines : List Line) (place : ℕ) (records : List Written) (late : List Id) (walk : Walk) : Type 0 where
+  pub sinks : HasSinks records walk.sinks
   pub comms : HasComms table walk.comms (comms_at walk.rank lines place)
   pub late_is : map Own walk.late.items ≡ late
   pub requests : (request : ℕ) → message_for walk.requests request ≡ matched_message (take place lines) request
 
 -- what is known after an entry: of its list, of what is kept where that goes on, and of the keys unless memory ran out
 pub record IsEntered (run : Run) (choice : Choice) (placed : Placed) (result : Result Bool Stop) (handed : Handed) (progress : Progress) (old now : Table) (place : ℕ) (walk : Walk) : Type 0 where
-  pub list : Entered result (outcome_of run choice placed) handed progress placed.line walk.list
-  pub on : (steps : List Step) → result ≡ Ok false → outcome_of run choice placed ≡ GoesOn steps
-      → StaysOn now placed.journal.lines place (after_steps progress placed.line steps).late walk
+  pub list : Entered result (outcome_in run choice progress.records placed) handed progress placed.line walk.list
+  pub on : (steps : List Step) → result ≡ Ok false → outcome_in run choice progress.records placed ≡ GoesOn steps
+      → StaysOn now placed.journal.lines place (after_steps progress placed.line steps).records (after_steps progress placed.line steps).late walk
   pub grows : (result ≡ Err Memory → ⊥) → Grows old now
