@@ -26,5 +26,7 @@ pub mod JournalLemmas
 pub mod ReadLines
 pub mod PassLemmas
 pub mod WordLemmas
+pub mod FieldLemmas
+pub mod PieceLemmas
 pub mod PlaceLemmas
 pub mod WholePush

@@ -2,6 +2,8 @@
 pub mod LineWindow
 pub mod Reader
 pub mod Forms
+pub mod Fields
+pub mod Texts
 pub mod Packing
 pub mod Places
 pub mod Taking

@@ -77,6 +77,7 @@ impl Lines {
     }
 
     /// The fields of a line; none beyond the last one.
+    #[inline(always)]
     pub fn fields(&self, line: u32) -> &[Field]
         ensures { result.now ≡ fields_at self.now line }
     {
@@ -92,6 +93,7 @@ impl Lines {
 
     /// Reads a line, without its line feed, of a run of so many ranks, and puts it after the others; answers
     /// its place.
+    #[inline(always)]
     pub(crate) fn read(&mut self, ranks: u32, line: &[u8]) -> Result<Taken, LineFault>
         requires some { 1 ≤ ranks }
         requires short { length line.now < MOST_LINE_BYTES }
