@@ -12,10 +12,12 @@ use crate::measured::Measured;
 use crate::opener::Opener;
 use crate::options::Options;
 use judging::judge::{JudgeFault, Manner as JudgeManner, judge};
+use moves::analyser::Analyser;
 use mpicall::device::Output;
 use mpigroup::limits::MOST_RANKS;
 use progress::gauge::Gauge;
-use progress::tracker::{Tracker, Untracked};
+use progress::publishing::Publishing;
+use progress::tracker::Tracker;
 use progress::viewer::{Manner, Viewer};
 use std::alloc::Global;
 use std::sync::Wait;
@@ -44,6 +46,24 @@ impl<L> Screen<L> {
             is_terminal: self.is_terminal,
             first: Duration::from_secs(if is_asked { 1 } else { 2 }),
         })
+    }
+}
+
+/// What publishes the stands of a check, where that is shown. Shown or not, a check is compiled once.
+#[derive(Drop)]
+struct Shown<'t, T>(Option<&'t T>);
+
+/// Nothing is shown.
+fn unshown<'t, R>() -> Shown<'t, Publishing<'t, 't, R>> {
+    Shown(None)
+}
+
+impl<T: Tracker> Tracker for Shown<'_, T> {
+    #[inline(always)]
+    fn note(&self, analyser: &Analyser, taken: u64) {
+        if let Some(tracker) = self.0 {
+            tracker.note(analyser, taken);
+        }
     }
 }
 
@@ -136,20 +156,21 @@ where
     ensures { AnswersCheck O.written O.failures (P.told opener.now) head.now files.now options out.old out.new result }
 {
     let paths = Paths { head, files };
-    let Some(manner) = manner else {
-        return check_paths(alloc, &paths, options, opener, &Untracked, rt, out);
-    };
     let gauge = Gauge::new();
-    let Some((tracker, viewer)) = Viewer::open(alloc, manner, &gauge, rt) else {
-        return check_paths(alloc, &paths, options, opener, &Untracked, rt, out);
-    };
-    gauge.set_size(size_of(opener, files));
     let measured = Measured {
         opener,
         gauge: &gauge,
     };
+    let Some(manner) = manner else {
+        return check_paths(alloc, &paths, options, &measured, &unshown::<R>(), rt, out);
+    };
+    let Some((tracker, viewer)) = Viewer::open(alloc, manner, &gauge, rt) else {
+        return check_paths(alloc, &paths, options, &measured, &unshown::<R>(), rt, out);
+    };
+    gauge.set_size(size_of(opener, files));
+    let shown = Shown(Some(&tracker));
     let answer = check_viewed(
-        alloc, &paths, options, &measured, &tracker, rt, out, viewer, screen,
+        alloc, &paths, options, &measured, &shown, rt, out, viewer, screen,
     );
     tracker.end();
     answer
@@ -234,20 +255,20 @@ where
         opener: journals.opener,
         gauge: &gauge,
     };
-    // Shown or not, files of one type are read: what reads their lines is compiled once, and inlined.
     let measured = JournalFolder {
         alloc: journals.alloc,
         opener: &opener,
         path: journals.path,
     };
     let Some(manner) = manner else {
-        return judge_folder(&measured, judged, &Untracked, rt, out);
+        return judge_folder(&measured, judged, &unshown::<R>(), rt, out);
     };
     let Some((tracker, viewer)) = Viewer::open(journals.alloc, manner, &gauge, rt) else {
-        return judge_folder(&measured, judged, &Untracked, rt, out);
+        return judge_folder(&measured, judged, &unshown::<R>(), rt, out);
     };
     gauge.set_size(size_of_journals(journals));
-    let answer = judge_viewed(&measured, judged, &tracker, rt, out, viewer, screen);
+    let shown = Shown(Some(&tracker));
+    let answer = judge_viewed(&measured, judged, &shown, rt, out, viewer, screen);
     tracker.end();
     answer
 }
