@@ -5,6 +5,7 @@ use crate::chains::{set_lists, take_of_lists, tell_list};
 use crate::fault::Fault;
 use crate::fields::tell_sized;
 use crate::groups::tell_split;
+use crate::known::Known;
 use crate::numbers::{Calls, tell_numbers};
 use crate::pairs::{add, tell_partner, told};
 use crate::readings::{reading_in, tell_held_back};
@@ -21,10 +22,12 @@ use moves::reading::Reading;
 use mpicall::record::Record;
 use mpigroup::head::Head;
 use pairing::pairs::Pairs;
+use report::write::Format;
 use std::alloc::{AllocError, Global};
 use std::sync::Wait;
 
-/// The name of a row, the head of its run, its calls as they were offered to an analyser and added to pairs, a text, and lists.
+/// The name of a row, the head of its run, its calls as they were offered to an analyser and added to pairs, a text, lists,
+/// and what is known of how the run goes on.
 pub struct Fixture {
     name: String,
     head: Vec<u8>,
@@ -32,6 +35,7 @@ pub struct Fixture {
     pairs: Pairs,
     text: Vec<u8>,
     lists: Lists<u32>,
+    known: Known,
 }
 
 impl Drop for Fixture {
@@ -43,6 +47,7 @@ impl Drop for Fixture {
             pairs: _,
             text: _,
             lists: _,
+            known: _,
         } = self;
     }
 }
@@ -92,6 +97,7 @@ impl Fixture {
                 pairs,
                 text: Vec::new(alloc),
                 lists: Lists::new(alloc),
+                known: Known::new(alloc),
             }),
             Err(fault) => Err(fault),
         }
@@ -134,6 +140,7 @@ impl Fixture {
         }
         self.text.clear();
         self.lists = Lists::new(answer.alloc());
+        self.known = Known::new(answer.alloc());
         self.begin_run(answer, "ranks 1");
     }
 
@@ -166,7 +173,10 @@ impl Fixture {
                 self.add_text(answer, 1, rest);
             }
             "more" => self.add_many(answer, rest),
-            _ => return set_lists(answer, &mut self.lists, word, rest),
+            _ => {
+                return self.known.set(answer, word, rest)
+                    || set_lists(answer, &mut self.lists, word, rest);
+            }
         }
         true
     }
@@ -206,9 +216,20 @@ impl Fixture {
             "sized" => tell_sized(answer, rest),
             "heldback" => tell_held_back(answer, &self.head, &self.run, rest),
             "partner" => tell_partner(answer, &self.pairs, rest),
+            "known" => self.tell_of_known(answer, rest),
             _ => return self.tell_of_graph(answer, word, rest),
         }
         true
+    }
+
+    /// Answers who is held, or the report, where pending calls and sinks are known.
+    fn tell_of_known(&self, answer: &mut Answer, asked: &str) {
+        match asked {
+            "held" => self.known.tell_held(answer, &self.run),
+            "text" => self.known.tell(answer, &self.run, Format::Text),
+            "json" => self.known.tell(answer, &self.run, Format::Json),
+            _ => answer.fail(Fault::Unread),
+        }
     }
 
     /// Answers a question about the wait graph, if it is such a one.

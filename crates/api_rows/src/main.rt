@@ -32,6 +32,9 @@
 //! - of the analyser's wait graph: `verdict -> free|hang|unfinished`, `stuck -> RANK RANK ..`, `held -> RANK RANK ..`,
 //!   `unmet RANK -> RANK PLACE, RANK none`, `causes -> cycle RANK RANK .., missing RANK PEER`, each `none` where there
 //!   is none; `report text|json -> TEXT`
+//! - `pending all ITEM ..`, `pending any ITEM ..` or `pending unknown` of the next rank, from 0, and `sink RANK PLACE
+//!   C:P:T`; an ITEM is a request's number, or `C:P:T` with `any` for a P or T. `known held -> RANK RANK ..`, or `none`,
+//!   and `known text|json -> TEXT`, the report, are of the analyser's wait graph with them
 //! - of the head: `ranks -> N`, `comms -> N`, `size COMM -> N`, `grouprank COMM RANK -> N`, `worldrank COMM MEMBER
 //!   -> RANK`, the last three `none` where there is none
 //!
@@ -63,6 +66,7 @@ mod fault;
 mod fields;
 mod fixture;
 mod groups;
+mod known;
 mod numbers;
 mod pairs;
 mod readings;

@@ -42,6 +42,7 @@ fn tell_causes(answer: &mut Answer, causes: &[Cause]) {
                 answer.value("missing ", rank);
                 answer.value(" ", peer);
             }
+            Cause::Starved { rank } => answer.value("starved ", rank),
         }
     }
 }

@@ -1,15 +1,19 @@
 -- The report of journals by its parts.
 use Rattle.moves.specs.declared.reading.Reading.{Reading}
-use Rattle.std.proofs.Common.{◌≡◌, ℕ, true, false, List, [], ◌∷◌, ◌++◌, map, ap, ◌∙◌, append_assoc}
+use Rattle.std.proofs.Common.{◌≡◌, ℕ, true, false, List, [], ◌∷◌, ◌++◌, length, map, ap, ◌∙◌, append_assoc}
 use Rattle.std.specs.Prelude.{codes}
 use Rattle.mpicall.specs.Spelling.{line_feed}
 use Rattle.mpigroup.specs.Groups.{Groups}
 use Rattle.callstore.specs.Recordings.{Lists}
-use Rattle.serde_json.specs.Data.{Data, string, array, Members, member, no_members}
+use Rattle.serde_json.specs.Data.{Data, string, array, object, Members, member, no_members}
 use Rattle.serde_json.specs.View.{items_of}
 use Rattle.serde_json.specs.Written.{compact_text, members_text}
 use Rattle.findings.specs.declared.finding.Finding.{Finding}
+use Rattle.std.specs.List.{filter, range_with_len}
 use Rattle.waitgraph.specs.Causes.{CauseView}
+use Rattle.waitgraph.specs.Pending.{PendingView}
+use Rattle.waitgraph.specs.declared.awaited.Awaited.{Awaited}
+use Rattle.report.specs.PendingReport.{has_lines, data_of_rank, pending_data, pending_json}
 use Rattle.waitgraph.specs.Stuck.{stuck_of}
 use Rattle.waitgraph.specs.declared.verdict.Verdict.{Verdict}
 use Rattle.report.specs.inner.ArrayTexts.{values_text, elements_text, key_text}
@@ -29,33 +33,32 @@ array_after key values rest more same =
     ∙ ap (λ (text : List ℕ). codes "]," ++ (compact_text (string key) ++ 58 ∷ 91 ∷ (values_text false values ++ text))) same
     ∙ behind_key (codes "],") key (codes ":[") (values_text false values ++ more)
 
--- the report by its parts
-pub judged_parts : (reading : Reading) (groups : Groups) (recording : Lists) (verdict : Verdict) (causes : List CauseView) (findings : List Finding) (left : List LeftAt) (lines : List LineAt) →
-    judged_json reading groups recording verdict causes findings left lines
+-- the report by its parts, with a value for each rank
+object_parts : (verdict : Verdict) (causes : List CauseView) (found : List Finding) (left : List LeftAt) (called : List LineAt) (values : List Data) →
+    compact_text (object (member (codes "causes") (each cause_data causes) (member (codes "findings") (each finding_data found) (member (codes "left") (each left_data left) (member (codes "lines") (each line_data called) (member (codes "ranks") (array (items_of values)) (member (codes "verdict") (string (verdict_text verdict)) no_members))))))) ++ line_feed ∷ []
     ≡ key_text (codes "{") (codes "causes") (codes ":") ++ (compact_text (each cause_data causes)
-    ++ (key_text (codes ",") (codes "findings") (codes ":[") ++ (elements_text finding_data findings
+    ++ (key_text (codes ",") (codes "findings") (codes ":[") ++ (elements_text finding_data found
     ++ (key_text (codes "],") (codes "left") (codes ":[") ++ (elements_text left_data left
-    ++ (key_text (codes "],") (codes "lines") (codes ":[") ++ (elements_text line_data lines
-    ++ (key_text (codes "],") (codes "ranks") (codes ":[") ++ (elements_text (rank_data reading groups recording) (stuck_of reading groups recording)
+    ++ (key_text (codes "],") (codes "lines") (codes ":[") ++ (elements_text line_data called
+    ++ (key_text (codes "],") (codes "ranks") (codes ":[") ++ (values_text false values
     ++ (key_text (codes "],") (codes "verdict") (codes ":") ++ (compact_text (string (verdict_text verdict)) ++ codes "}\n")))))))))))
-unfolding judged_json judged_data
-judged_parts reading groups recording verdict causes found left called =
+object_parts verdict causes found left called values =
     let why = compact_text (each cause_data causes) in
     let ends = compact_text (string (verdict_text verdict)) ++ codes "}\n" in
     let said = member (codes "verdict") (string (verdict_text verdict)) no_members in
-    let ranks = member (codes "ranks") (each (rank_data reading groups recording) (stuck_of reading groups recording)) said in
+    let ranks = member (codes "ranks") (array (items_of values)) said in
     let lines = member (codes "lines") (each line_data called) ranks in
     let lefts = member (codes "left") (each left_data left) lines in
     let findings = member (codes "findings") (each finding_data found) lefts in
     let last_more = key_text (codes "],") (codes "verdict") (codes ":") ++ ends in
-    let ranks_more = key_text (codes "],") (codes "ranks") (codes ":[") ++ (elements_text (rank_data reading groups recording) (stuck_of reading groups recording) ++ last_more) in
+    let ranks_more = key_text (codes "],") (codes "ranks") (codes ":[") ++ (values_text false values ++ last_more) in
     let lines_more = key_text (codes "],") (codes "lines") (codes ":[") ++ (elements_text line_data called ++ ranks_more) in
     let left_more = key_text (codes "],") (codes "left") (codes ":[") ++ (elements_text left_data left ++ lines_more) in
     let last : 93 ∷ (members_text true said ++ line_feed ∷ []) ≡ last_more =
     ap (λ (text : List ℕ). 93 ∷ text) (verdict_member (verdict_text verdict))
     ∙ behind_key (codes "],") (codes "verdict") (codes ":") ends in
     let with_ranks : 93 ∷ (members_text true ranks ++ line_feed ∷ []) ≡ ranks_more =
-    array_after (codes "ranks") (map (rank_data reading groups recording) (stuck_of reading groups recording)) said last_more last in
+    array_after (codes "ranks") (values) said last_more last in
     let with_lines : 93 ∷ (members_text true lines ++ line_feed ∷ []) ≡ lines_more =
     array_after (codes "lines") (map line_data called) ranks ranks_more with_ranks in
     let with_left : 93 ∷ (members_text true lefts ++ line_feed ∷ []) ≡ left_more =
@@ -70,6 +73,30 @@ judged_parts reading groups recording verdict causes found left called =
     (append_assoc why (members_text true findings) (line_feed ∷ [])
     ∙ ap (λ (text : List ℕ). why ++ text) second))
     ∙ behind_key (codes "{") (codes "causes") (codes ":") (why ++ (key_text (codes ",") (codes "findings") (codes ":[") ++ (elements_text finding_data found ++ left_more)))
+
+pub judged_parts : (reading : Reading) (groups : Groups) (recording : Lists) (verdict : Verdict) (causes : List CauseView) (found : List Finding) (left : List LeftAt) (called : List LineAt) →
+    judged_json reading groups recording verdict causes found left called
+    ≡ key_text (codes "{") (codes "causes") (codes ":") ++ (compact_text (each cause_data causes)
+    ++ (key_text (codes ",") (codes "findings") (codes ":[") ++ (elements_text finding_data found
+    ++ (key_text (codes "],") (codes "left") (codes ":[") ++ (elements_text left_data left
+    ++ (key_text (codes "],") (codes "lines") (codes ":[") ++ (elements_text line_data called
+    ++ (key_text (codes "],") (codes "ranks") (codes ":[") ++ (elements_text (rank_data reading groups recording) (stuck_of reading groups recording)
+    ++ (key_text (codes "],") (codes "verdict") (codes ":") ++ (compact_text (string (verdict_text verdict)) ++ codes "}\n")))))))))))
+unfolding judged_json judged_data
+judged_parts reading groups recording verdict causes found left called = object_parts verdict causes found left called (map (rank_data reading groups recording) (stuck_of reading groups recording))
+
+-- the same where it is known in which calls ranks were
+pub pending_parts : (reading : Reading) (groups : Groups) (recording : Lists) (verdict : Verdict) (pending : List PendingView) (at_open : List (List Awaited)) (causes : List CauseView) (found : List Finding) (left : List LeftAt) (called : List LineAt) →
+    pending_json reading groups recording verdict pending at_open causes found left called
+    ≡ key_text (codes "{") (codes "causes") (codes ":") ++ (compact_text (each cause_data causes)
+    ++ (key_text (codes ",") (codes "findings") (codes ":[") ++ (elements_text finding_data found
+    ++ (key_text (codes "],") (codes "left") (codes ":[") ++ (elements_text left_data left
+    ++ (key_text (codes "],") (codes "lines") (codes ":[") ++ (elements_text line_data called
+    ++ (key_text (codes "],") (codes "ranks") (codes ":[") ++ (elements_text (data_of_rank reading groups recording pending at_open) (filter (has_lines reading groups recording at_open) (range_with_len 0 (length recording)))
+    ++ (key_text (codes "],") (codes "verdict") (codes ":") ++ (compact_text (string (verdict_text verdict)) ++ codes "}\n")))))))))))
+unfolding pending_json pending_data
+pending_parts reading groups recording verdict pending at_open causes found left called =
+    object_parts verdict causes found left called (map (data_of_rank reading groups recording pending at_open) (filter (has_lines reading groups recording at_open) (range_with_len 0 (length recording))))
 
 -- thirteen texts, put after one another
 pub thirteen : (a b c d e f g h i j k l m : List ℕ) → ((((((((((((a ++ b) ++ c) ++ d) ++ e) ++ f) ++ g) ++ h) ++ i) ++ j) ++ k) ++ l) ++ m) ≡ (a ++ (b ++ (c ++ (d ++ (e ++ (f ++ (g ++ (h ++ (i ++ (j ++ (k ++ (l ++ m))))))))))))

@@ -3,3 +3,4 @@ pub mod ArrayLemmas
 pub mod SpelledLemmas
 pub mod PrintingLemmas
 pub mod JudgedLemmas
+pub mod OpenedLemmas

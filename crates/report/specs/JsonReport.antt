@@ -13,7 +13,7 @@ use Rattle.moves.specs.Stands.{stands_of}
 use Rattle.waitgraph.specs.declared.verdict.Verdict.{Verdict}
 use Rattle.moves.specs.declared.need.Need.{Need}
 use Rattle.moves.specs.declared.need.Need.TheVariants.{At, Lacking}
-use Rattle.waitgraph.specs.Causes.{CauseView, CycleOf, MissingOf}
+use Rattle.waitgraph.specs.Causes.{CauseView, CycleOf, MissingOf, StarvedOf}
 use Rattle.findings.specs.Findings.{findings_of}
 use Rattle.report.specs.FindingTexts.{finding_fields}
 use Rattle.waitgraph.specs.Stuck.{stuck_of, unmet_of}
@@ -49,10 +49,12 @@ rank_data reading groups recording rank =
     (member (codes "needs") (each need_data (unmet_of reading groups recording rank))
     (member (codes "rank") (numeral rank) no_members))))
 
--- `{"cycle":[..]}` with the ranks of a cycle; `{"missing":[R,K]}`: rank R waits, and rank K lacks the call
+-- `{"cycle":[..]}` with the ranks of a cycle; `{"missing":[R,K]}`: rank R waits, and rank K lacks the call;
+-- `{"starved":R}`: rank R waits for a message that nobody may send
 abbrev pub cause_data : CauseView → Data
 cause_data (CycleOf ranks) = object (member (codes "cycle") (each numeral ranks) no_members)
 cause_data (MissingOf rank peer) = object (member (codes "missing") (pair (numeral rank) (numeral peer)) no_members)
+cause_data (StarvedOf rank) = object (member (codes "starved") (numeral rank) no_members)
 
 -- a string with the fields of a finding
 abbrev pub finding_data : Finding → Data

@@ -3,4 +3,5 @@ pub mod TextReport
 pub mod JsonReport
 pub mod Reports
 pub mod Judged
+pub mod PendingReport
 pub mod inner

@@ -14,7 +14,7 @@ use Rattle.moves.specs.declared.need.Need.{Need}
 use Rattle.moves.specs.declared.need.Need.TheVariants.{At, Lacking}
 use Rattle.waitgraph.specs.declared.verdict.Verdict.{Verdict}
 use Rattle.waitgraph.specs.declared.verdict.Verdict.TheVariants.{Free, Hang, Unfinished}
-use Rattle.waitgraph.specs.Causes.{CauseView, CycleOf, MissingOf}
+use Rattle.waitgraph.specs.Causes.{CauseView, CycleOf, MissingOf, StarvedOf}
 use Rattle.findings.specs.Findings.{findings_of}
 use Rattle.report.specs.FindingTexts.{finding_fields}
 use Rattle.findings.specs.Places.{call_at}
@@ -54,10 +54,12 @@ unmet_line reading groups recording rank need =
 abbrev pub rank_lines : Reading → Groups → Lists → Rank → List ℕ
 rank_lines reading groups recording rank = flat_map (unmet_line reading groups recording rank) (unmet_of reading groups recording rank)
 
--- `cycle` and its ranks, or `missing`, the rank that waits and the rank that lacks the call
+-- `cycle` and its ranks, `missing`, the rank that waits and the rank that lacks the call, or `starved` and the rank that
+-- waits for a message which nobody may send
 abbrev pub cause_line : CauseView → List ℕ
 cause_line (CycleOf ranks) = line (codes "cycle" ∷ map decimal ranks)
 cause_line (MissingOf rank peer) = line (codes "missing" ∷ decimal rank ∷ decimal peer ∷ [])
+cause_line (StarvedOf rank) = line (codes "starved" ∷ decimal rank ∷ [])
 
 -- `finding` and what is found
 abbrev pub finding_line : Finding → List ℕ

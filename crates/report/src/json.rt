@@ -7,15 +7,20 @@ ghost use Rattle.waitgraph.specs.Causes.{view_of};
 ghost use Rattle.waitgraph.specs.Graphs.{IsGraphOf};
 ghost use Rattle.waitgraph.specs.Verdicts.{verdict_by};
 ghost use Rattle.report.specs.JsonReport.{each, cause_data, json_report};
+ghost use Rattle.waitgraph.specs.Pending.{view_of as pending_view};
 ghost use Rattle.report.specs.Judged.{judged_json};
+ghost use Rattle.report.specs.PendingReport.{pending_json};
+ghost use Rattle.report.specs.inner.Opened.{TellsOf};
 ghost use Rattle.report.specs.TextReport.{verdict_text};
 
 use crate::json::cause::causes_value;
 use crate::json::element::{push_key, push_value};
 use crate::json::finding::push_findings;
 use crate::json::judged::{push_left, push_lines};
+use crate::json::pending::push_pending_ranks;
 use crate::json::rank::push_ranks;
 use crate::judged::Judged;
+use crate::pending::PendingRun;
 use crate::write::text::verdict_text;
 use moves::analyser::Analyser;
 use serde_json::json;
@@ -29,6 +34,7 @@ mod element;
 mod finding;
 mod judged;
 mod need;
+mod pending;
 mod rank;
 
 /// Puts the causes after the text, as one array.
@@ -95,6 +101,33 @@ pub(crate) fn judged_json_text(
     push_ranks(alloc, &mut text, analyser, graph)?;
     push_key(alloc, &mut text, "],", "verdict", ":")?;
     push_verdict(alloc, &mut text, graph.verdict())?;
+    text.push_str("}\n")?;
+    Ok(text)
+}
+
+/// The same where it is known in which calls ranks were.
+pub(crate) fn pending_json_text(
+    alloc: Global,
+    run: &PendingRun<'_>,
+    judged: &Judged<'_>,
+) -> Result<String, AllocError>
+    requires { TellsOf run.now }
+    ensures { IfOk result (λ text. string_bytes text
+        ≡ pending_json run.now.analyser.now.reading run.now.analyser.now.groups run.now.analyser.now.recording (verdict_by run.now.graph.now.held run.now.graph.now.left_open) (map pending_view run.now.pending.now) run.now.graph.now.at_open run.now.graph.now.causes judged.now.findings.now judged.now.left.now judged.now.lines.now) }
+{
+    let mut text = String::new(alloc);
+    push_key(alloc, &mut text, "{", "causes", ":")?;
+    push_causes(alloc, &mut text, run.graph.causes())?;
+    push_key(alloc, &mut text, ",", "findings", ":[")?;
+    push_findings(alloc, &mut text, judged.findings)?;
+    push_key(alloc, &mut text, "],", "left", ":[")?;
+    push_left(alloc, &mut text, judged.left)?;
+    push_key(alloc, &mut text, "],", "lines", ":[")?;
+    push_lines(alloc, &mut text, judged.lines)?;
+    push_key(alloc, &mut text, "],", "ranks", ":[")?;
+    push_pending_ranks(alloc, &mut text, run)?;
+    push_key(alloc, &mut text, "],", "verdict", ":")?;
+    push_verdict(alloc, &mut text, run.graph.verdict())?;
     text.push_str("}\n")?;
     Ok(text)
 }

@@ -8,6 +8,7 @@
 //! - Where a write fails, what was written before is a prefix of that report. Lack of memory is
 //!   answered for JSON alone, and then nothing was written.
 //!
+//! `pending::write_pending` writes the report of journals where it is known in which calls ranks were (`PendingReport`).
 //! `finding::push_finding` has the one text of a finding (`FindingTexts`).
 //!
 //! What only proofs and private contracts cite is in `specs/inner/`, and nobody has to believe it.
@@ -21,5 +22,6 @@
 pub mod finding;
 mod json;
 pub mod judged;
+pub mod pending;
 mod stand;
 pub mod write;

@@ -1,6 +1,6 @@
-//! Where a rank stands, as a report has it.
+//! Where a rank stands, as a report has it, and how many ranks there are.
 
-ghost use Rattle.std.specs.Prelude.{◌≡◌, slice_index};
+ghost use Rattle.std.specs.Prelude.{◌≡◌, length, slice_index};
 ghost use Rattle.moves.specs.Stands.{stands_of};
 
 use moves::analyser::Analyser;
@@ -11,4 +11,11 @@ pub(crate) fn stand_of(analyser: &Analyser, rank: u16) -> u32
 {
     analyser.stands_are_the_end();
     analyser.stand(rank).unwrap_or(0)
+}
+
+/// How many ranks the run has.
+pub(crate) fn ranks_of(analyser: &Analyser) -> u16
+    ensures { result ≡ length analyser.now.recording }
+{
+    analyser.head().ranks()
 }

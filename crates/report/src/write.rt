@@ -15,7 +15,9 @@ use std::alloc::Global;
 use thiserror::Error;
 use waitgraph::graph::Graph;
 
-mod printer;
+pub(crate) mod opened;
+pub(crate) mod pending;
+pub(crate) mod printer;
 pub(crate) mod text;
 
 /// The format of a report: lines of text, or one JSON value.

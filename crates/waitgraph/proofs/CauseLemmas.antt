@@ -1,6 +1,6 @@
 -- The causes are those that the search finds.
 use Rattle.moves.specs.declared.reading.Reading.{Reading}
-use Rattle.std.proofs.Common.{inl, inr, ◌≡◌, ℕ, zero, suc, Bool, true, false, not, ◌||◌, Option, Some, None, find, if◌then◌else◌, List, [], ◌∷◌, ◌++◌, length, map, drop, refl, sym, ap, subst, ◌∙◌, ⊎_elim}
+use Rattle.std.proofs.Common.{inl, inr, ◌≡◌, ℕ, zero, suc, Bool, true, false, ◌||◌, Option, Some, None, find, if◌then◌else◌, List, [], ◌∷◌, ◌++◌, length, map, drop, refl, sym, ap, subst, ◌∙◌, ⊎_elim, append-nil}
 use Rattle.std.specs.Prelude.{nat_le, option_map, option_and_then}
 use Rattle.std.specs.List.{list_all, filter_map, range_with_len}
 use Rattle.std.proofs.lemmas.Option.{none-some, same_Some}
@@ -14,13 +14,13 @@ use Rattle.pairing.specs.LeftOpen.{is_left_open}
 use Rattle.waitgraph.specs.Stuck.{rank_needed, unmet_of}
 use Rattle.waitgraph.specs.Waits.{needs_in}
 use Rattle.waitgraph.specs.Held.{Set, is_missing, is_blocked, IsDeadlocked, ListsHeld}
-use Rattle.waitgraph.specs.Causes.{CauseView, CycleOf, MissingOf, held_by, next_of, missing_of, IsCycle, AreCauses, after_steps, IsEnd, ComesTo, TellsCauses, WalksEndInTheCauses, EachRecordingHasOneListOfCauses}
+use Rattle.waitgraph.specs.Causes.{CauseView, CycleOf, MissingOf, StarvedOf, held_by, next_of, missing_of, IsCycle, AreCauses, after_steps, IsEnd, ComesTo, TellsCauses, WalksEndInTheCauses, EachRecordingHasOneListOfCauses}
 use Rattle.waitgraph.specs.Graphs.{GraphView, IsGraphOf}
 use Rattle.waitgraph.specs.inner.Graphs.{IsGraphBy}
 use Rattle.waitgraph.specs.inner.Held.{opened_of, is_held}
 use Rattle.waitgraph.specs.inner.Loose.{goes_on, hop, hop_by}
 use Rattle.waitgraph.specs.inner.Waits.{waits_of}
-use Rattle.waitgraph.specs.inner.Causes.{Walks, walks_of, hop_in, to_of, lacked_by, next_in, way_round, cycle_by, cycle_at, missing_at, causes_of}
+use Rattle.waitgraph.specs.inner.Causes.{Walks, walks_of, hop_in, to_of, lacked_by, next_in, way_round, cycle_by, cycle_at, missing_at, starved_to, starved_at, end_to, end_at, causes_of}
 use Rattle.waitgraph.specs.declared.next_hop.NextHop.{NextHop}
 use Rattle.waitgraph.proofs.AmongLemmas.{Among}
 use Rattle.waitgraph.proofs.UnmetLemmas.{unmet_from, waits_are}
@@ -35,7 +35,7 @@ find_same : {A : Type 0} (f g : A → Bool) → ((x : A) → f x ≡ g x) → (x
 find_same f g same [] = refl
 find_same f g same (x ∷ xs) = rw (same x, find_same f g same xs) refl
 
-given_same : {A B : Type 0} (f g : A → Option B) → ((x : A) → f x ≡ g x) → (xs : List A) → filter_map f xs ≡ filter_map g xs
+pub given_same : {A B : Type 0} (f g : A → Option B) → ((x : A) → f x ≡ g x) → (xs : List A) → filter_map f xs ≡ filter_map g xs
 given_same f g same [] = refl
 given_same f g same (x ∷ xs) = rw (same x, given_same f g same xs) refl
 
@@ -54,7 +54,7 @@ found_there {A} test (y ∷ ys) x h =
     (cases_Bool (test y))
 
 -- a rank that isn't held has no need by which it is
-not_held_by : (reading : Reading) (groups : Groups) (recording : Lists) → IsDeadlocked reading groups recording (is_held reading groups recording) → (rank : ℕ) → is_held reading groups recording rank ≡ false → held_by reading groups recording (is_held reading groups recording) rank ≡ None
+pub not_held_by : (reading : Reading) (groups : Groups) (recording : Lists) → IsDeadlocked reading groups recording (is_held reading groups recording) → (rank : ℕ) → is_held reading groups recording rank ≡ false → held_by reading groups recording (is_held reading groups recording) rank ≡ None
 not_held_by reading groups recording dead rank not_held =
     by_need reading groups recording dead rank not_held (held_by reading groups recording (is_held reading groups recording) rank) refl
   where
@@ -108,6 +108,26 @@ missing_by recording waiting (Some (Lacking rank)) =
     (λ (no : is_left_open recording rank ≡ false). rw (opened, no) refl)
     (cases_Bool (is_left_open recording rank))
 
+end_by : (recording : Lists) (waiting : ℕ) (o : Option Need) → option_and_then (end_to waiting) (option_map (hop (opened_of recording)) o) ≡ option_and_then (λ need. if is_missing recording need then Some (MissingOf waiting (rank_needed need)) else None) o
+end_by recording waiting None = refl
+end_by recording waiting (Some (At rank place)) = refl
+end_by recording waiting (Some (Lacking rank)) =
+    let opened = opened_all recording rank in
+    ⊎_elim
+    (λ (is : is_left_open recording rank ≡ true). rw (opened, is) refl)
+    (λ (no : is_left_open recording rank ≡ false). rw (opened, no) refl)
+    (cases_Bool (is_left_open recording rank))
+
+-- no walk ends at a message that nobody may send
+not_starved : (recording : Lists) (waiting : ℕ) (o : Option Need) → option_and_then (starved_to waiting) (option_map (hop (opened_of recording)) o) ≡ None
+not_starved recording waiting None = refl
+not_starved recording waiting (Some (At rank place)) = refl
+not_starved recording waiting (Some (Lacking rank)) =
+    ⊎_elim
+    (λ (is : opened_of recording rank ≡ true). rw is refl)
+    (λ (no : opened_of recording rank ≡ false). rw no refl)
+    (cases_Bool (opened_of recording rank))
+
 next_is : (reading : Reading) (groups : Groups) (recording : Lists) → IsDeadlocked reading groups recording (is_held reading groups recording) → (rank : ℕ) → next_in (walks_of reading groups recording) rank ≡ next_of reading groups recording (is_held reading groups recording) rank
 next_is reading groups recording dead rank =
     ap (option_and_then to_of) (onward_is reading groups recording dead rank) ∙ next_by recording (held_by reading groups recording (is_held reading groups recording) rank)
@@ -117,18 +137,37 @@ missing_is reading groups recording dead rank =
     ap (λ (o : Option NextHop). option_map (MissingOf rank) (option_and_then lacked_by o)) (onward_is reading groups recording dead rank)
     ∙ missing_by recording rank (held_by reading groups recording (is_held reading groups recording) rank)
 
+end_is : (reading : Reading) (groups : Groups) (recording : Lists) → IsDeadlocked reading groups recording (is_held reading groups recording) → (rank : ℕ) → end_at (walks_of reading groups recording) rank ≡ missing_of reading groups recording (is_held reading groups recording) rank
+end_is reading groups recording dead rank =
+    ap (option_and_then (end_to rank)) (onward_is reading groups recording dead rank)
+    ∙ end_by recording rank (held_by reading groups recording (is_held reading groups recording) rank)
+
+abbrev nowhere : ℕ → Option CauseView
+nowhere rank = None
+
+none_starved : (reading : Reading) (groups : Groups) (recording : Lists) → IsDeadlocked reading groups recording (is_held reading groups recording) → (ranks : List ℕ) → filter_map (starved_at (walks_of reading groups recording)) ranks ≡ []
+none_starved reading groups recording dead ranks =
+    given_same (starved_at (walks_of reading groups recording)) nowhere
+    (λ rank. ap (option_and_then (starved_to rank)) (onward_is reading groups recording dead rank) ∙ not_starved recording rank (held_by reading groups recording (is_held reading groups recording) rank))
+    ranks
+    ∙ never ranks
+  where
+    never : (ranks : List ℕ) → filter_map nowhere ranks ≡ []
+    never [] = refl
+    never (rank ∷ ranks) = never ranks
+
 -- a cycle by one walk is one by another that goes the same way
-cycle_same : (f g : ℕ → Option ℕ) → ((rank : ℕ) → f rank ≡ g rank) → (low : ℕ) (rest : List ℕ) → IsCycle f low rest → IsCycle g low rest
+pub cycle_same : (f g : ℕ → Option ℕ) → ((rank : ℕ) → f rank ≡ g rank) → (low : ℕ) (rest : List ℕ) → IsCycle f low rest → IsCycle g low rest
 cycle_same f g same low rest cycle = (sym (map_same f g same (low ∷ rest)) ∙ cycle.0, cycle.1)
 
 -- the rest of the cycle that the search finds from a rank
 cut_by : ℕ → List ℕ → Option (List ℕ)
 cut_by low ranks = if list_all (nat_le low) ranks then Some (drop 1 ranks) else None
 
-rest_by : Walks → ℕ → Option (List ℕ)
+pub rest_by : Walks → ℕ → Option (List ℕ)
 rest_by walks low = option_and_then (cut_by low) (way_round walks (length walks) low low)
 
-rest_to : (walks : Walks) (low : ℕ) (rest : List ℕ) → rest_by walks low ≡ Some rest → IsCycle (next_in walks) low rest
+pub rest_to : (walks : Walks) (low : ℕ) (rest : List ℕ) → rest_by walks low ≡ Some rest → IsCycle (next_in walks) low rest
 unfolding rest_by cut_by
 rest_to walks low rest is = by_way walks low rest (way_round walks (length walks) low low) refl is
   where
@@ -143,11 +182,11 @@ rest_to walks low rest is = by_way walks low rest (way_round walks (length walks
     by_way walks low rest None way is = absurd (none-some rest is)
     by_way walks low rest (Some ranks) way is = by_test walks low rest ranks (list_all (nat_le low) ranks) way refl is
 
-rest_from : (walks : Walks) (low : ℕ) (rest : List ℕ) → IsCycle (next_in walks) low rest → rest_by walks low ≡ Some rest
+pub rest_from : (walks : Walks) (low : ℕ) (rest : List ℕ) → IsCycle (next_in walks) low rest → rest_by walks low ≡ Some rest
 unfolding rest_by cut_by
 rest_from walks low rest cycle = rw (cycle_found walks low rest cycle, cycle_no_lower walks low rest cycle) refl
 
-cycle_is : (walks : Walks) (low : ℕ) → cycle_at walks low ≡ option_map (λ rest. CycleOf (low ∷ rest)) (rest_by walks low)
+pub cycle_is : (walks : Walks) (low : ℕ) → cycle_at walks low ≡ option_map (λ rest. CycleOf (low ∷ rest)) (rest_by walks low)
 unfolding rest_by cut_by
 cycle_is walks low = by_way walks low (way_round walks (length walks) low low) refl
   where
@@ -176,7 +215,10 @@ causes_are reading groups recording dead =
             (cycle_same (next_of reading groups recording (is_held reading groups recording)) (next_in (walks_of reading groups recording)) (λ rank. sym (next rank)) low rest cycle),
       );
       are_all =
-          ap (λ (ranks : ℕ). filter_map (cycle_at (walks_of reading groups recording)) (range_with_len 0 ranks) ++ filter_map (missing_at (walks_of reading groups recording)) (range_with_len 0 ranks)) (walk_count reading groups recording)
+          ap (λ (starved : List CauseView). filter_map (cycle_at (walks_of reading groups recording)) (range_with_len 0 (length (walks_of reading groups recording))) ++ filter_map (missing_at (walks_of reading groups recording)) (range_with_len 0 (length (walks_of reading groups recording))) ++ starved)
+          (none_starved reading groups recording dead (range_with_len 0 (length (walks_of reading groups recording))))
+          ∙ append-nil (filter_map (cycle_at (walks_of reading groups recording)) (range_with_len 0 (length (walks_of reading groups recording))) ++ filter_map (missing_at (walks_of reading groups recording)) (range_with_len 0 (length (walks_of reading groups recording))))
+          ∙ ap (λ (ranks : ℕ). filter_map (cycle_at (walks_of reading groups recording)) (range_with_len 0 ranks) ++ filter_map (missing_at (walks_of reading groups recording)) (range_with_len 0 ranks)) (walk_count reading groups recording)
           ∙ ap (λ (cycles : List CauseView). cycles ++ filter_map (missing_at (walks_of reading groups recording)) (range_with_len 0 (length recording)))
           (given_same (cycle_at (walks_of reading groups recording)) (λ low. option_map (λ rest. CycleOf (low ∷ rest)) (rest_by (walks_of reading groups recording) low)) (cycle_is (walks_of reading groups recording)) (range_with_len 0 (length recording)))
           ∙ ap (λ (missing : List CauseView). filter_map (λ low. option_map (λ rest. CycleOf (low ∷ rest)) (rest_by (walks_of reading groups recording) low)) (range_with_len 0 (length recording)) ++ missing)
@@ -187,7 +229,7 @@ causes_are reading groups recording dead =
 blocked_same : (recording : Lists) (held other : Set) → ((rank : ℕ) → held rank ≡ other rank) → (need : Need) → is_blocked recording held need ≡ is_blocked recording other need
 blocked_same recording held other same need = ap (λ (on : Bool). on || is_missing recording need) (same (rank_needed need))
 
-held_by_same : (reading : Reading) (groups : Groups) (recording : Lists) (held other : Set) → ((rank : ℕ) → held rank ≡ other rank) → (rank : ℕ) → held_by reading groups recording held rank ≡ held_by reading groups recording other rank
+pub held_by_same : (reading : Reading) (groups : Groups) (recording : Lists) (held other : Set) → ((rank : ℕ) → held rank ≡ other rank) → (rank : ℕ) → held_by reading groups recording held rank ≡ held_by reading groups recording other rank
 held_by_same reading groups recording held other same rank =
     find_same (is_blocked recording held) (is_blocked recording other) (blocked_same recording held other same) (unmet_of reading groups recording rank)
 
@@ -200,7 +242,7 @@ missing_same reading groups recording held other same rank =
     ap (option_and_then (λ need. if is_missing recording need then Some (MissingOf rank (rank_needed need)) else None)) (held_by_same reading groups recording held other same rank)
 
 -- options that have the same value
-same_value : {A : Type 0} (o other : Option A) → ((x : A) → o ≡ Some x → other ≡ Some x) → ((x : A) → other ≡ Some x → o ≡ Some x) → o ≡ other
+pub same_value : {A : Type 0} (o other : Option A) → ((x : A) → o ≡ Some x → other ≡ Some x) → ((x : A) → other ≡ Some x → o ≡ Some x) → o ≡ other
 same_value None None on back = refl
 same_value None (Some x) on back = back x refl
 same_value (Some x) other on back = sym (on x refl)
@@ -257,7 +299,7 @@ after_same f g same zero rank = refl
 after_same f g same (suc steps) rank =
     ap (option_and_then (after_steps f steps)) (same rank) ∙ on_same (after_steps f steps) (after_steps g steps) (after_same f g same steps) (g rank)
 
-comes_same : (f g : ℕ → Option ℕ) (m n : ℕ → Option CauseView) → ((rank : ℕ) → f rank ≡ g rank) → ((rank : ℕ) → m rank ≡ n rank) → (rank : ℕ) (cause : CauseView) → ComesTo f m rank cause → ComesTo g n rank cause
+pub comes_same : (f g : ℕ → Option ℕ) (m n : ℕ → Option CauseView) → ((rank : ℕ) → f rank ≡ g rank) → ((rank : ℕ) → m rank ≡ n rank) → (rank : ℕ) (cause : CauseView) → ComesTo f m rank cause → ComesTo g n rank cause
 comes_same f g m n same alike rank cause comes = record {
   steps = comes.steps;
   end = comes.end;
@@ -268,6 +310,7 @@ comes_same f g m n same alike rank cause comes = record {
     end_same : (f g : ℕ → Option ℕ) (m n : ℕ → Option CauseView) → ((rank : ℕ) → f rank ≡ g rank) → ((rank : ℕ) → m rank ≡ n rank) → (rank : ℕ) (cause : CauseView) → IsEnd f m rank cause → IsEnd g n rank cause
     end_same f g m n same alike rank (CycleOf ranks) end = (end.0, end.1, cycle_same f g same rank end.0 end.2)
     end_same f g m n same alike rank (MissingOf waiting peer) end = sym (alike rank) ∙ end
+    end_same f g m n same alike rank (StarvedOf waiting) end = sym (alike rank) ∙ end
 
 pub walks_end_in_the_causes : WalksEndInTheCauses
 walks_end_in_the_causes reading groups recording held causes closed are_held are =
@@ -275,11 +318,11 @@ walks_end_in_the_causes reading groups recording held causes closed are_held are
     let same = same_held reading groups recording (is_held reading groups recording) held (are_found reading groups recording closed) are_held in
     let next : (rank : ℕ) → next_in (walks_of reading groups recording) rank ≡ next_of reading groups recording held rank =
     λ rank. next_is reading groups recording dead rank ∙ next_same reading groups recording (is_held reading groups recording) held same rank in
-    let missing : (rank : ℕ) → missing_at (walks_of reading groups recording) rank ≡ missing_of reading groups recording held rank =
-    λ rank. missing_is reading groups recording dead rank ∙ missing_same reading groups recording (is_held reading groups recording) held same rank in
+    let missing : (rank : ℕ) → end_at (walks_of reading groups recording) rank ≡ missing_of reading groups recording held rank =
+    λ rank. end_is reading groups recording dead rank ∙ missing_same reading groups recording (is_held reading groups recording) held same rank in
     let found = walks_end_in_found reading groups recording closed in
     let all : causes ≡ causes_of reading groups recording = causes_found reading groups recording causes closed are in
-    let comes = comes_same (next_in (walks_of reading groups recording)) (next_of reading groups recording held) (missing_at (walks_of reading groups recording)) (missing_of reading groups recording held) next missing in
+    let comes = comes_same (next_in (walks_of reading groups recording)) (next_of reading groups recording held) (end_at (walks_of reading groups recording)) (missing_of reading groups recording held) next missing in
     subst (λ (listed : List CauseView). TellsCauses (next_of reading groups recording held) (missing_of reading groups recording held) held listed) (sym all)
     (record {
       each_walk_ends = λ rank h.

@@ -22,7 +22,7 @@ use Rattle.waitgraph.specs.Waits.{needs_in}
 use Rattle.waitgraph.specs.Held.{Set, is_missing, is_blocked, waits_for, IsDeadlocked, IsHeld, AreHeld, TheHeldAreTheGreatest}
 use Rattle.waitgraph.specs.Stays.{HeldRanksStay}
 use Rattle.waitgraph.specs.inner.Held.{opened_of, standing_by, standings_at, is_held}
-use Rattle.waitgraph.specs.inner.Loose.{standing_of, is_on, loosens, are_loose, are_held, goes_on}
+use Rattle.waitgraph.specs.inner.Loose.{standing_of, is_on, loosens, are_loose, goes_on}
 use Rattle.waitgraph.specs.inner.Least.{after_rounds}
 use Rattle.waitgraph.specs.inner.Waits.{waits_of}
 use Rattle.waitgraph.specs.declared.standing.Standing.TheVariants.{Stuck}

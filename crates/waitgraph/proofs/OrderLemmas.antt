@@ -72,7 +72,7 @@ kept_are q (x ∷ xs) =
     (λ (is : q x ≡ false). rw is (kept_are q xs))
     (cases_Bool (q x))
 
-kept_in_order : (q : Need → Bool) (xs : List Need) → are_needs_in_order xs ≡ true → are_needs_in_order (filter q xs) ≡ true
+pub kept_in_order : (q : Need → Bool) (xs : List Need) → are_needs_in_order xs ≡ true → are_needs_in_order (filter q xs) ≡ true
 kept_in_order q [] h = refl
 kept_in_order q (x ∷ xs) h =
     let both = and_parts (list_all (comes_before x) xs) (are_needs_in_order xs) h in

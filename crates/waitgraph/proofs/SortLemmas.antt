@@ -108,7 +108,7 @@ same_rest need x y xs ys first before h (inl e) =
 same_rest need x y xs ys first before h (inr k) = k
 
 -- lists in order with the same needs are the same
-same_in_order : (xs ys : List Need) → are_needs_in_order xs ≡ true → are_needs_in_order ys ≡ true → ((need : Need) → Among need xs → Among need ys) → ((need : Need) → Among need ys → Among need xs) → xs ≡ ys
+pub same_in_order : (xs ys : List Need) → are_needs_in_order xs ≡ true → are_needs_in_order ys ≡ true → ((need : Need) → Among need xs → Among need ys) → ((need : Need) → Among need ys → Among need xs) → xs ≡ ys
 same_in_order [] [] order other to from = refl
 same_in_order [] (y ∷ ys) order other to from = absurd (from y (inl refl))
 same_in_order (x ∷ xs) [] order other to from = absurd (to x (inl refl))

@@ -345,7 +345,7 @@ is_open : (call : Call) → leaves_open call ≡ true → call ≡ Open
 is_open Open h = refl
 is_open _ h = absurd (false≢true h)
 
-last_open : (calls : List Call) → option_map_or leaves_open (slice_get calls (length calls - 1)) false ≡ true → calls ≡ take (length calls - 1) calls ++ Open ∷ []
+pub last_open : (calls : List Call) → option_map_or leaves_open (slice_get calls (length calls - 1)) false ≡ true → calls ≡ take (length calls - 1) calls ++ Open ∷ []
 last_open [] h = absurd (false≢true h)
 last_open (call ∷ []) h = ap (λ (c : Call). c ∷ []) (is_open call h)
 last_open (call ∷ next ∷ calls) h =

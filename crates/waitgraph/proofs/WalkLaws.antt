@@ -1,18 +1,18 @@
 -- Where walks end, over waits in which no rank waits for one that waits for none.
-use Rattle.std.proofs.Common.{inl, inr, ◌≡◌, ℕ, zero, suc, ◌+◌, ◌-◌, ◌<◌, ◌≤◌, ◌⊎◌, true, Option, Some, None, List, ◌∷◌, length, refl, sym, ap, ◌∙◌, ⊎_elim, arith}
+use Rattle.std.proofs.Common.{inl, inr, ◌≡◌, ℕ, zero, suc, ◌+◌, ◌-◌, ◌<◌, ◌≤◌, ◌⊎◌, true, Option, Some, None, List, ◌∷◌, ◌++◌, length, refl, sym, ap, ◌∙◌, ⊎_elim, arith}
 use Rattle.std.specs.Prelude.{nat_le, option_and_then, unwrap_or}
-use Rattle.std.specs.List.{slice_get, list_all, filter_map, range_with_len}
+use Rattle.std.specs.List.{list_all, filter_map, range_with_len}
 use Rattle.std.proofs.lemmas.Option.{none-some, same_Some, slice_get_past}
 use Rattle.std.proofs.lemmas.Bool.{cases_lt}
-use Rattle.waitgraph.specs.Causes.{CauseView, CycleOf, MissingOf, after_steps, IsCycle, ComesTo}
-use Rattle.waitgraph.specs.inner.Causes.{Walks, hop_in, to_of, lacked_by, next_in, lacks_in, way_round, cycle_at, missing_at, causes_in}
+use Rattle.waitgraph.specs.Causes.{CauseView, CycleOf, MissingOf, StarvedOf, after_steps, IsCycle, IsEnd, ComesTo}
+use Rattle.waitgraph.specs.inner.Causes.{Walks, hop_in, to_of, next_in, way_round, cycle_at, missing_at, starved_at, causes_in, end_to, end_at}
 use Rattle.waitgraph.specs.declared.next_hop.NextHop.{NextHop}
-use Rattle.waitgraph.specs.declared.next_hop.NextHop.TheVariants.{To, Lacks}
+use Rattle.waitgraph.specs.declared.next_hop.NextHop.TheVariants.{To, Lacks, Nobody}
 use Rattle.waitgraph.proofs.AmongLemmas.{Among, among_left, among_right, given_among, range_among}
 use Rattle.waitgraph.proofs.CycleLemmas.{way_home_is, way_is_cycle, HasWayHome, finds_way}
 use Rattle.waitgraph.proofs.PigeonLemmas.{twice, lowest_of}
 
--- from a rank that waits the walk goes on, or ends at a missing call
+-- from a rank that waits the walk goes on, or ends
 pub record IsWaiting (walks : Walks) (rank : ℕ) : Type 0 where
   pub there : NextHop
   pub goes_there : hop_in walks rank ≡ Some there
@@ -42,13 +42,13 @@ after_both walks (suc a) b rank =
 after_then : (walks : Walks) (a b whole rank there : ℕ) → a + b ≡ whole → after_steps (next_in walks) a rank ≡ Some there → after_steps (next_in walks) whole rank ≡ after_steps (next_in walks) b there
 after_then walks a b whole rank there e h = rw (← e) (after_both walks a b rank ∙ rw h refl)
 
--- the walk comes to a missing call
-record ComesToMissing (walks : Walks) (rank : ℕ) : Type 0 where
+-- the walk ends
+record ComesToEnd (walks : Walks) (rank : ℕ) : Type 0 where
   steps : ℕ
   end : ℕ
-  peer : ℕ
+  cause : CauseView
   comes_there : after_steps (next_in walks) steps rank ≡ Some end
-  lacks : lacks_in walks end ≡ Some peer
+  ends : end_at walks end ≡ Some cause
 
 -- the walk goes on for so many steps
 record Stands (walks : Walks) (rank steps : ℕ) : Type 0 where
@@ -59,9 +59,10 @@ record Stands (walks : Walks) (rank steps : ℕ) : Type 0 where
 record StepsOn (walks : Walks) (rank : ℕ) (most : ℕ) : Type 0 where
   at : (steps : ℕ) → steps ≤ most → Stands walks rank steps
 
-one_step : (walks : Walks) (rank : ℕ) (there : NextHop) → hop_in walks rank ≡ Some there → ((peer : ℕ) × (lacks_in walks rank ≡ Some peer)) ⊎ ((next : ℕ) × (next_in walks rank ≡ Some next))
+one_step : (walks : Walks) (rank : ℕ) (there : NextHop) → hop_in walks rank ≡ Some there → ((cause : CauseView) × (end_at walks rank ≡ Some cause)) ⊎ ((next : ℕ) × (next_in walks rank ≡ Some next))
 one_step walks rank (To k) is = inr (k, rw is refl)
-one_step walks rank (Lacks k) is = inl (k, rw is refl)
+one_step walks rank (Lacks k) is = inl (MissingOf rank k, rw is refl)
+one_step walks rank Nobody is = inl (StarvedOf rank, rw is refl)
 
 stands_here : (walks : Walks) (rank steps : ℕ) → IsWaiting walks rank → steps ≤ 0 → Stands walks rank steps
 stands_here walks rank zero waiting few = record { there = rank; comes_there = refl; is_waiting = waiting }
@@ -73,17 +74,17 @@ stands_on walks rank next most (suc steps) waiting is later few =
     let rest = later.at steps (omega arith) in
     record { there = rest.there; comes_there = rw is rest.comes_there; is_waiting = rest.is_waiting }
 
-runs : (walks : Walks) → WalkGoesOn walks → (most rank : ℕ) → IsWaiting walks rank → ComesToMissing walks rank ⊎ StepsOn walks rank most
+runs : (walks : Walks) → WalkGoesOn walks → (most rank : ℕ) → IsWaiting walks rank → ComesToEnd walks rank ⊎ StepsOn walks rank most
 runs walks on zero rank waiting = inr (record { at = λ steps few. stands_here walks rank steps waiting few })
 runs walks on (suc most) rank waiting =
     by_step walks on most rank waiting (λ next more. runs walks on most next more) (one_step walks rank waiting.there waiting.goes_there)
   where
-    by_rest : (walks : Walks) (most rank next : ℕ) → IsWaiting walks rank → next_in walks rank ≡ Some next → ComesToMissing walks next ⊎ StepsOn walks next most → ComesToMissing walks rank ⊎ StepsOn walks rank (suc most)
-    by_rest walks most rank next waiting is (inl found) = inl (record { steps = suc found.steps; end = found.end; peer = found.peer; comes_there = rw is found.comes_there; lacks = found.lacks })
+    by_rest : (walks : Walks) (most rank next : ℕ) → IsWaiting walks rank → next_in walks rank ≡ Some next → ComesToEnd walks next ⊎ StepsOn walks next most → ComesToEnd walks rank ⊎ StepsOn walks rank (suc most)
+    by_rest walks most rank next waiting is (inl found) = inl (record { steps = suc found.steps; end = found.end; cause = found.cause; comes_there = rw is found.comes_there; ends = found.ends })
     by_rest walks most rank next waiting is (inr later) = inr (record { at = λ steps few. stands_on walks rank next most steps waiting is later few })
 
-    by_step : (walks : Walks) → WalkGoesOn walks → (most rank : ℕ) → IsWaiting walks rank → ((next : ℕ) → IsWaiting walks next → ComesToMissing walks next ⊎ StepsOn walks next most) → ((peer : ℕ) × (lacks_in walks rank ≡ Some peer)) ⊎ ((next : ℕ) × (next_in walks rank ≡ Some next)) → ComesToMissing walks rank ⊎ StepsOn walks rank (suc most)
-    by_step walks on most rank waiting rest (inl lacks) = inl (record { steps = 0; end = rank; peer = lacks.0; comes_there = refl; lacks = lacks.1 })
+    by_step : (walks : Walks) → WalkGoesOn walks → (most rank : ℕ) → IsWaiting walks rank → ((next : ℕ) → IsWaiting walks next → ComesToEnd walks next ⊎ StepsOn walks next most) → ((cause : CauseView) × (end_at walks rank ≡ Some cause)) ⊎ ((next : ℕ) × (next_in walks rank ≡ Some next)) → ComesToEnd walks rank ⊎ StepsOn walks rank (suc most)
+    by_step walks on most rank waiting rest (inl ends) = inl (record { steps = 0; end = rank; cause = ends.0; comes_there = refl; ends = ends.1 })
     by_step walks on most rank waiting rest (inr next) = by_rest walks most rank next.0 waiting next.1 (rest next.0 (on.goes_on rank next.0 next.1))
 
 -- the rank to which the walk comes
@@ -173,17 +174,46 @@ told_by_way walks most rank ranks is_way all =
 
 cycle_listed : (walks : Walks) (rank : ℕ) (cause : CauseView) → rank < length walks → cycle_at walks rank ≡ Some cause → Among cause (causes_in walks)
 cycle_listed walks rank cause is_rank is =
-    among_left cause (filter_map (cycle_at walks) (range_with_len 0 (length walks))) (filter_map (missing_at walks) (range_with_len 0 (length walks)))
-    (given_among rank cause (cycle_at walks) (range_with_len 0 (length walks)) (range_among rank 0 (length walks) (omega arith) (omega arith)) is)
+    among_left cause (filter_map (cycle_at walks) (range_with_len 0 (length walks)) ++ filter_map (missing_at walks) (range_with_len 0 (length walks))) (filter_map (starved_at walks) (range_with_len 0 (length walks)))
+    (among_left cause (filter_map (cycle_at walks) (range_with_len 0 (length walks))) (filter_map (missing_at walks) (range_with_len 0 (length walks)))
+    (given_among rank cause (cycle_at walks) (range_with_len 0 (length walks)) (range_among rank 0 (length walks) (omega arith) (omega arith)) is))
 
 missing_listed : (walks : Walks) (rank : ℕ) (cause : CauseView) → rank < length walks → missing_at walks rank ≡ Some cause → Among cause (causes_in walks)
 missing_listed walks rank cause is_rank is =
-    among_right cause (filter_map (cycle_at walks) (range_with_len 0 (length walks))) (filter_map (missing_at walks) (range_with_len 0 (length walks)))
-    (given_among rank cause (missing_at walks) (range_with_len 0 (length walks)) (range_among rank 0 (length walks) (omega arith) (omega arith)) is)
+    among_left cause (filter_map (cycle_at walks) (range_with_len 0 (length walks)) ++ filter_map (missing_at walks) (range_with_len 0 (length walks))) (filter_map (starved_at walks) (range_with_len 0 (length walks)))
+    (among_right cause (filter_map (cycle_at walks) (range_with_len 0 (length walks))) (filter_map (missing_at walks) (range_with_len 0 (length walks)))
+    (given_among rank cause (missing_at walks) (range_with_len 0 (length walks)) (range_among rank 0 (length walks) (omega arith) (omega arith)) is))
 
-pub lacks_is_waiting : (walks : Walks) (rank peer : ℕ) (o : Option NextHop) → hop_in walks rank ≡ o → option_and_then lacked_by o ≡ Some peer → IsWaiting walks rank
-lacks_is_waiting walks rank peer None is h = absurd (none-some peer h)
-lacks_is_waiting walks rank peer (Some there) is h = record { there = there; goes_there = is }
+starved_listed : (walks : Walks) (rank : ℕ) (cause : CauseView) → rank < length walks → starved_at walks rank ≡ Some cause → Among cause (causes_in walks)
+starved_listed walks rank cause is_rank is =
+    among_right cause (filter_map (cycle_at walks) (range_with_len 0 (length walks)) ++ filter_map (missing_at walks) (range_with_len 0 (length walks))) (filter_map (starved_at walks) (range_with_len 0 (length walks)))
+    (given_among rank cause (starved_at walks) (range_with_len 0 (length walks)) (range_among rank 0 (length walks) (omega arith) (omega arith)) is)
+
+-- the end of a walk is listed
+end_listed : (walks : Walks) (rank : ℕ) (cause : CauseView) → rank < length walks → end_at walks rank ≡ Some cause → Among cause (causes_in walks)
+end_listed walks rank cause is_rank is = by_hop (hop_in walks rank) refl is
+  where
+    by_hop : (o : Option NextHop) → hop_in walks rank ≡ o → option_and_then (end_to rank) o ≡ Some cause → Among cause (causes_in walks)
+    by_hop None at is = absurd (none-some cause is)
+    by_hop (Some (To next)) at is = absurd (none-some cause is)
+    by_hop (Some (Lacks peer)) at is = missing_listed walks rank cause is_rank (rw at is)
+    by_hop (Some Nobody) at is = starved_listed walks rank cause is_rank (rw at is)
+
+-- and it is an end
+pub is_an_end : (walks : Walks) (rank : ℕ) (cause : CauseView) → end_at walks rank ≡ Some cause → IsEnd (next_in walks) (end_at walks) rank cause
+is_an_end walks rank (CycleOf ranks) is = absurd (by_hop (hop_in walks rank) is)
+  where
+    by_hop : (o : Option NextHop) → option_and_then (end_to rank) o ≡ Some (CycleOf ranks) → ⊥
+    by_hop None is = none-some (CycleOf ranks) is
+    by_hop (Some (To next)) is = none-some (CycleOf ranks) is
+    by_hop (Some (Lacks peer)) is = cc is
+    by_hop (Some Nobody) is = cc is
+is_an_end walks rank (MissingOf waiting peer) is = is
+is_an_end walks rank (StarvedOf waiting) is = is
+
+pub end_is_waiting : (walks : Walks) (rank : ℕ) (cause : CauseView) (o : Option NextHop) → hop_in walks rank ≡ o → option_and_then (end_to rank) o ≡ Some cause → IsWaiting walks rank
+end_is_waiting walks rank cause None is h = absurd (none-some cause h)
+end_is_waiting walks rank cause (Some there) is h = record { there = there; goes_there = is }
 
 pub next_is_waiting : (walks : Walks) (rank next : ℕ) (o : Option NextHop) → hop_in walks rank ≡ o → option_and_then to_of o ≡ Some next → IsWaiting walks rank
 next_is_waiting walks rank next None is h = absurd (none-some next h)
@@ -193,7 +223,7 @@ next_is_waiting walks rank next (Some there) is h = record { there = there; goes
 pub record HasEnd (walks : Walks) (rank : ℕ) : Type 0 where
   pub cause : CauseView
   pub is_listed : Among cause (causes_in walks)
-  pub ends : ComesTo (next_in walks) (missing_at walks) rank cause
+  pub ends : ComesTo (next_in walks) (end_at walks) rank cause
 
 pub walk_ends : (walks : Walks) → WalkGoesOn walks → (rank : ℕ) → IsWaiting walks rank → HasEnd walks rank
 walk_ends walks on rank waiting =
@@ -209,13 +239,13 @@ walk_ends walks on rank waiting =
           ends = record { steps = found.steps; end = found.low; comes_there = found.comes_there; is_end = (told.rest, told.begins, told.is_cycle) };
         }
 
-    by_run : (walks : Walks) (rank : ℕ) → ComesToMissing walks rank ⊎ StepsOn walks rank (length walks) → HasEnd walks rank
+    by_run : (walks : Walks) (rank : ℕ) → ComesToEnd walks rank ⊎ StepsOn walks rank (length walks) → HasEnd walks rank
     by_run walks rank (inl found) =
         record {
-          cause = MissingOf found.end found.peer;
-          is_listed = missing_listed walks found.end (MissingOf found.end found.peer)
-              (waiting_is_rank walks found.end (lacks_is_waiting walks found.end found.peer (hop_in walks found.end) refl found.lacks))
-              (rw found.lacks refl);
-          ends = record { steps = found.steps; end = found.end; comes_there = found.comes_there; is_end = rw found.lacks refl };
+          cause = found.cause;
+          is_listed = end_listed walks found.end found.cause
+              (waiting_is_rank walks found.end (end_is_waiting walks found.end found.cause (hop_in walks found.end) refl found.ends))
+              found.ends;
+          ends = record { steps = found.steps; end = found.end; comes_there = found.comes_there; is_end = is_an_end walks found.end found.cause found.ends };
         }
     by_run walks rank (inr on) = by_cycle walks rank (comes_round walks rank on)

@@ -24,18 +24,18 @@ use Rattle.pairing.specs.LeftOpen.{leaves_open, is_left_open}
 use Rattle.waitgraph.specs.inner.Held.{opened_of, standing_by, standing_at, standings_at, is_held}
 use Rattle.waitgraph.specs.inner.Loose.{standing_of, are_held, hop_by, hop_of, FitTogether, GoesOnOrEnds}
 use Rattle.waitgraph.specs.Held.{Set}
-use Rattle.waitgraph.specs.inner.Causes.{hop_in, to_of, next_in, missing_at, walks_of, causes_of}
+use Rattle.waitgraph.specs.inner.Causes.{hop_in, to_of, next_in, end_at, walks_of, causes_of}
 use Rattle.waitgraph.specs.Causes.{TellsCauses}
 use Rattle.waitgraph.specs.declared.next_hop.NextHop.{NextHop}
-use Rattle.waitgraph.specs.declared.next_hop.NextHop.TheVariants.{To, Lacks}
+use Rattle.waitgraph.specs.declared.next_hop.NextHop.TheVariants.{To, Lacks, Nobody}
 use Rattle.waitgraph.specs.declared.standing.Standing.{Standing}
 use Rattle.waitgraph.specs.declared.standing.Standing.TheVariants.{AtFinalize, AtOpen, Stuck}
-use Rattle.waitgraph.proofs.AmongLemmas.{Among, among_in, in_among}
+use Rattle.waitgraph.proofs.AmongLemmas.{Among, in_among}
 use Rattle.waitgraph.proofs.UnmetLemmas.{waits_are}
 use Rattle.waitgraph.proofs.GoingLemmas.{held_ranks_go_on}
 use Rattle.waitgraph.proofs.StuckLemmas.{ends_at, StandsBefore, stands_before, not_past, awaited_stands}
-use Rattle.waitgraph.proofs.WalkLaws.{IsWaiting, WalkGoesOn, next_is_waiting, walk_ends}
-use Rattle.waitgraph.proofs.ListedLemmas.{each_is_an_end, none_twice}
+use Rattle.waitgraph.proofs.WalkLaws.{IsWaiting, WalkGoesOn, next_is_waiting}
+use Rattle.waitgraph.proofs.ListedLemmas.{walks_tell}
 use Rattle.waitgraph.proofs.RangeLemmas.{in_table, past_table}
 
 -- where a rank of the recording stands
@@ -148,6 +148,7 @@ next_held : (opened held : Set) (o : Option NextHop) (next : ℕ) → GoesOnOrEn
 next_held opened held None next h is = absurd h
 next_held opened held (Some (To other)) next h is = subst (λ (k : ℕ). held k ≡ true) (same_Some other next is) h
 next_held opened held (Some (Lacks other)) next h is = absurd (none-some next is)
+next_held opened held (Some Nobody) next h is = absurd h
 
 goes_on : (reading : Reading) (groups : Groups) (recording : Lists) → IsClosed recording → WalkGoesOn (walks_of reading groups recording)
 goes_on reading groups recording closed =
@@ -167,13 +168,6 @@ walk_count reading groups recording =
     ∙ length-map-range_with_len (standing_at recording (stands_of reading groups recording)) 0 (length recording)
 
 -- the walks from the held ranks that the search finds end in the causes that it finds
-pub walks_end_in_found : (reading : Reading) (groups : Groups) (recording : Lists) → IsClosed recording → TellsCauses (next_in (walks_of reading groups recording)) (missing_at (walks_of reading groups recording)) (is_held reading groups recording) (causes_of reading groups recording)
-walks_end_in_found reading groups recording closed = record {
-  each_walk_ends = λ rank held.
-      let end = walk_ends (walks_of reading groups recording) (goes_on reading groups recording closed) rank (held_waits reading groups recording closed rank held) in
-      (end.cause, among_in end.cause (causes_of reading groups recording) end.is_listed, end.ends);
-  each_is_an_end = λ cause listed.
-      let start = each_is_an_end (walks_of reading groups recording) cause (in_among cause (causes_of reading groups recording) listed) in
-      (start.rank, waiting_held reading groups recording start.rank start.is_waiting, start.ends);
-  none_twice = λ index other cause h k. none_twice (walks_of reading groups recording) index other cause h k;
-}
+pub walks_end_in_found : (reading : Reading) (groups : Groups) (recording : Lists) → IsClosed recording → TellsCauses (next_in (walks_of reading groups recording)) (end_at (walks_of reading groups recording)) (is_held reading groups recording) (causes_of reading groups recording)
+walks_end_in_found reading groups recording closed =
+    walks_tell (walks_of reading groups recording) (is_held reading groups recording) (held_waits reading groups recording closed) (waiting_held reading groups recording) (goes_on reading groups recording closed)

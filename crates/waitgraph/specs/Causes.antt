@@ -10,16 +10,19 @@ use Rattle.moves.specs.declared.need.Need.{Need}
 use Rattle.waitgraph.specs.Stuck.{rank_needed, unmet_of}
 use Rattle.waitgraph.specs.Held.{Set, is_missing, is_blocked, IsHeld, AreHeld}
 use Rattle.waitgraph.specs.declared.cause.Cause.{Cause}
-use Rattle.waitgraph.specs.declared.cause.Cause.TheVariants.{Cycle, Missing}
+use Rattle.waitgraph.specs.declared.cause.Cause.TheVariants.{Cycle, Missing, Starved}
 
--- what contracts see of a cause: the ranks of a cycle, or the rank that waits and the peer that lacks the call
+-- what contracts see of a cause: the ranks of a cycle, the rank that waits and the peer that lacks the call, or the rank
+-- that waits for a message which nobody may send
 pub data CauseView : Type 0 where
   CycleOf : List ℕ → CauseView
   MissingOf : ℕ → ℕ → CauseView
+  StarvedOf : ℕ → CauseView
 
 abbrev pub view_of : Cause → CauseView
 view_of (Cycle ranks) = CycleOf ranks.items
 view_of (Missing rank peer) = MissingOf rank peer
+view_of (Starved rank) = StarvedOf rank
 
 -- the need by which a rank is held
 abbrev pub held_by : Reading → Groups → Lists → Set → Rank → Option Need
@@ -61,6 +64,7 @@ after_steps next (suc steps) rank = option_and_then (after_steps next steps) (ne
 abbrev pub IsEnd : (ℕ → Option ℕ) → (ℕ → Option CauseView) → Rank → CauseView → Type 0
 IsEnd next missing rank (CycleOf ranks) = (rest : List ℕ) × (ranks ≡ rank ∷ rest) × IsCycle next rank rest
 IsEnd next missing rank (MissingOf waiting peer) = missing rank ≡ Some (MissingOf waiting peer)
+IsEnd next missing rank (StarvedOf waiting) = missing rank ≡ Some (StarvedOf waiting)
 
 -- the walk from the rank comes to the cause
 pub record ComesTo (next : ℕ → Option ℕ) (missing : ℕ → Option CauseView) (rank : ℕ) (cause : CauseView) : Type 0 where

@@ -10,14 +10,16 @@ use Rattle.waitgraph.specs.Waits.{Waits, needs_in}
 use Rattle.findings.specs.Findings.{findings_of}
 use Rattle.waitgraph.specs.Stuck.{stuck_of, unmet_of}
 use Rattle.findings.specs.declared.finding.Finding.{Finding}
+use Rattle.waitgraph.specs.declared.awaited.Awaited.{Awaited}
 
--- the stuck ranks, the held ones, whether some list was left open, the unmet needs of each rank, the causes and the
--- findings
+-- the stuck ranks, the held ones, whether some list was left open, the unmet needs of each rank, what is awaited at
+-- opens, the causes and the findings
 pub record GraphView : Type 0 where
   pub stuck : List ℕ
   pub held : List ℕ
   pub left_open : Bool
   pub waits : Waits
+  pub at_open : List (List Awaited)
   pub causes : List CauseView
   pub findings : List Finding
 

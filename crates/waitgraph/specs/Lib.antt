@@ -1,8 +1,15 @@
 pub mod Stuck
 pub mod Waits
 pub mod Held
+pub mod Pending
+pub mod PendingHeld
+pub mod PendingNeeds
 pub mod Causes
+pub mod PendingCauses
 pub mod Graphs
+pub mod PendingGraphs
 pub mod Verdicts
+pub mod PendingVerdicts
 pub mod Stays
+pub mod PendingStays
 pub mod inner

@@ -1,6 +1,6 @@
 //! Who waits for whom where the ranks stand, and why.
 
-ghost use Rattle.std.specs.Prelude.{◌≡◌, ◌<◌, ℕ, length, map, IfOk};
+ghost use Rattle.std.specs.Prelude.{◌≡◌, ◌<◌, ℕ, [], length, map, IfOk};
 ghost use Rattle.std.specs.List.{filter, range_with_len};
 ghost use Rattle.callstore.specs.Recordings.{IsClosed};
 ghost use Rattle.waitgraph.specs.Stuck.{stuck_of, unmet_of};
@@ -14,8 +14,10 @@ ghost use Rattle.waitgraph.specs.Stays.{StayPut};
 ghost use Rattle.waitgraph.specs.inner.Waits.{waits_at};
 ghost use Rattle.waitgraph.specs.Waits.{needs_in};
 ghost use Rattle.findings.specs.Findings.{findings_of};
+ghost use Rattle.waitgraph.specs.PendingNeeds.{awaited_in};
 ghost use Rattle.waitgraph.specs.Verdicts.{verdict_by};
 
+use crate::awaited::Awaited;
 use crate::cause::Cause;
 use crate::loose::{held, loose, walks_in};
 use crate::standing::{Standing, is_some, left_open_in, standings_at};
@@ -31,14 +33,17 @@ use pairing::pairs::Pairs;
 use std::alloc::{AllocError, Global};
 use std::marker::Model;
 
+pub mod pending;
+
 /// Who waits for whom where the ranks of a run stand, and why, and what else is wrong with the run. Contracts see
-/// the stuck ranks, the held ones, whether some list was left open, each rank's unmet needs, the causes and the
-/// findings.
+/// the stuck ranks, the held ones, whether some list was left open, each rank's unmet needs, what is awaited at opens,
+/// the causes and the findings.
 pub struct Graph {
     stuck: Vec<u16>,
     held: Vec<u16>,
     left_open: bool,
     waits: Waits,
+    at_open: Vec<Vec<Awaited>>,
     causes: Vec<Cause>,
     findings: Vec<Finding>,
 }
@@ -51,6 +56,7 @@ impl Drop for Graph {
             held: _,
             left_open: _,
             waits: _,
+            at_open: _,
             causes: _,
             findings: _,
         } = self;
@@ -64,7 +70,7 @@ impl Model for Graph {
 
     ghost Value = { GraphView };
 
-    ghost view = { λ g. record { stuck = g.stuck.items; held = g.held.items; left_open = g.left_open; waits = g.waits; causes = map view_of g.causes.items; findings = g.findings.items } };
+    ghost view = { λ g. record { stuck = g.stuck.items; held = g.held.items; left_open = g.left_open; waits = g.waits; at_open = map (λ one. one.items) g.at_open.items; causes = map view_of g.causes.items; findings = g.findings.items } };
 }
 
 /// Whether the rank's present call isn't the one that ends its list.
@@ -77,7 +83,7 @@ fn is_stuck_at(pairs: &Pairs, stands: &[u32], rank: u16) -> bool
     }
 }
 
-fn stuck_at(alloc: Global, pairs: &Pairs, stands: &[u32]) -> Result<Vec<u16>, AllocError>
+pub(crate) fn stuck_at(alloc: Global, pairs: &Pairs, stands: &[u32]) -> Result<Vec<u16>, AllocError>
     ensures { IfOk result (λ stuck. stuck.items ≡ stuck_at pairs.now.recording stands.now) }
 {
     (0..pairs.head().ranks())
@@ -85,7 +91,7 @@ fn stuck_at(alloc: Global, pairs: &Pairs, stands: &[u32]) -> Result<Vec<u16>, Al
         .collect(alloc)
 }
 
-fn waits_at(alloc: Global, world: &World, stands: &[u32]) -> Result<Waits, AllocError>
+pub(crate) fn waits_at(alloc: Global, world: &World, stands: &[u32]) -> Result<Waits, AllocError>
     ensures { IfOk result (λ waits. waits ≡ waits_at world.now.reading world.now.pairs.groups world.now.pairs.recording stands.now) }
 {
     let mut waits = Waits::new(alloc);
@@ -134,6 +140,7 @@ fn graph_at(alloc: Global, world: &World, stands: &[u32]) -> Result<Graph, Alloc
     ensures waits { IfOk result (λ graph. graph.waits ≡ waits_at world.now.reading world.now.pairs.groups world.now.pairs.recording stands.now) }
     ensures causes { IfOk result (λ graph. graph.causes ≡ causes_in (walks_at world.now.reading world.now.pairs.groups world.now.pairs.recording stands.now)) }
     ensures findings { IfOk result (λ graph. graph.findings ≡ findings_of world.now.pairs.groups world.now.pairs.recording) }
+    ensures at_open { IfOk result (λ graph. graph.at_open ≡ []) }
 {
     let pairs = &world.pairs;
     let stuck = stuck_at(alloc, pairs, stands)?;
@@ -150,6 +157,7 @@ fn graph_at(alloc: Global, world: &World, stands: &[u32]) -> Result<Graph, Alloc
         held,
         left_open,
         waits,
+        at_open: Vec::new(alloc),
         causes,
         findings,
     })
@@ -169,6 +177,7 @@ impl Graph {
         ensures unmet { IfOk result (λ graph. (rank : ℕ) → needs_in graph.waits rank ≡ unmet_of analyser.now.reading analyser.now.groups analyser.now.recording rank) }
         ensures causes { IfOk result (λ graph. AreCauses analyser.now.reading analyser.now.groups analyser.now.recording graph.causes) }
         ensures findings { IfOk result (λ graph. graph.findings ≡ findings_of analyser.now.groups analyser.now.recording) }
+        ensures at_open { IfOk result (λ graph. graph.at_open ≡ []) }
     {
         analyser.stands_are_the_end();
         let graph = graph_at(alloc, analyser.world(), analyser.stands())?;
@@ -209,8 +218,19 @@ impl Graph {
         self.waits.get(rank)
     }
 
-    /// Why ranks are held: the cycles by their lowest rank, and then the missing calls by the rank that
-    /// waits.
+    /// What the rank waits for that is held and stands at its open, by the items of its pending call; nothing where it
+    /// isn't held, or doesn't stand there.
+    pub fn at_open(&self, rank: u16) -> &[Awaited]
+        ensures { result.now ≡ awaited_in self.now.at_open rank }
+    {
+        match self.at_open.get(usize::from(rank)) {
+            Some(awaits) => awaits.as_slice(),
+            None => &[],
+        }
+    }
+
+    /// Why ranks are held: the cycles by their lowest rank, the missing calls by the rank that waits, and then the ranks
+    /// that wait for a message which nobody may send.
     pub fn causes(&self) -> &[Cause]
         ensures { map view_of result.now ≡ self.now.causes }
     {

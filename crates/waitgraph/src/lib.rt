@@ -10,6 +10,12 @@
 //! - Each held rank stands where it does, whatever calls stand in the place of an `open` (`Stays`).
 //! - `Graph::verdict` answers the verdict: `Hang` exactly if some rank is held, else `Unfinished` if some list
 //!   was left open (`Verdicts`). Where none was, exactly the stuck ranks are held.
+//! - `graph::Graph::of_pending` answers the same where it is known in which calls ranks were when their lists were left
+//!   open, and which receives a message may have met (`Pending`): the held ranks, which are the greatest set in which
+//!   no rank may move on while all of them stay (`PendingHeld`), what those at their opens wait for (`PendingNeeds`),
+//!   the causes (`PendingCauses`), the verdict (`PendingVerdicts`) and the findings (`PendingGraphs`). Each held rank
+//!   stands where it does, whether sinks are met or not and however pending calls come back (`PendingStays`). Where
+//!   nothing of the kind is known it is the graph of `of`.
 //! - Its findings are what else is wrong with the recording, as the crate `findings` defines them.
 //! - Laws, each on a function that does nothing: the unmet needs are those needs of the present call that
 //!   aren't met and no others; each stuck rank has one, no other rank has, and who is waited for at a place is
@@ -28,10 +34,19 @@
 //! ```
 #![tactic(auto)]
 
+mod at_open;
+pub mod awaited;
+mod blocked;
 pub mod cause;
+mod free;
 pub mod graph;
 pub mod loose;
+mod may_move;
 pub mod next_hop;
+pub mod pending;
+mod senders;
+mod sink_table;
+mod spares;
 pub mod standing;
 pub mod unmet;
 pub mod verdict;

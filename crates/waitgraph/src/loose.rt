@@ -17,7 +17,7 @@ use crate::waits::Waits;
 use moves::need::Need;
 use std::alloc::{AllocError, Global};
 
-fn is_marked(marks: &[bool], rank: u16) -> bool
+pub(crate) fn is_marked(marks: &[bool], rank: u16) -> bool
     ensures { result ≡ set_of marks.now rank }
 {
     match marks.get(usize::from(rank)) {
@@ -26,7 +26,7 @@ fn is_marked(marks: &[bool], rank: u16) -> bool
     }
 }
 
-fn mark(marks: &mut Vec<bool>, rank: u16)
+pub(crate) fn mark(marks: &mut Vec<bool>, rank: u16)
     requires { rank < length marks.old.items }
     ensures { marks.new.items ≡ slice_set marks.old.items rank true }
 {
@@ -106,7 +106,7 @@ fn sweep(opened: &[bool], standings: &[Standing], waits: &Waits, marks: &mut Vec
     more
 }
 
-fn no_marks(alloc: Global, ranks: usize) -> Result<Vec<bool>, AllocError>
+pub(crate) fn no_marks(alloc: Global, ranks: usize) -> Result<Vec<bool>, AllocError>
     ensures { IfOk result (λ marks. marks.items ≡ replicate ranks false) }
 {
     vec![in alloc; false; ranks]

@@ -7,4 +7,6 @@ pub enum NextHop {
     To { rank: u16 },
     /// Nowhere: this rank lacks the call that it waits for.
     Lacks { rank: u16 },
+    /// Nowhere: nobody may send the message that it waits for.
+    Nobody,
 }

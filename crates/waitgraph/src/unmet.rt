@@ -49,7 +49,7 @@ fn order_of(need: &Need, other: &Need) -> Ordering
 }
 
 /// Puts needs in order, each once.
-fn put_in_order(needs: &mut Vec<Need>)
+pub(crate) fn put_in_order(needs: &mut Vec<Need>)
     ensures { needs.new.items ≡ needs_in_order needs.old.items }
 {
     needs.sort_unstable_by(|need, other| order_of(need, other));
@@ -118,8 +118,26 @@ fn add_operation_needs(
     add_wave_needs(unmet, &world.pairs, stands, at)
 }
 
-/// Adds the same of the request with that index among those that the call at the place completes: of the call that
-/// started it.
+/// Adds the same of the call that started a request.
+fn add_start_needs(
+    unmet: &mut Vec<Need>,
+    world: &World,
+    stands: &[u32],
+    rank: u16,
+    start: Option<u32>,
+) -> Result<(), AllocError>
+    ensures { OnOk result (unmet.new.items ≡ unmet.old.items ++ filter (is_unmet stands.now) (option_map_or (operation_needs_at world.now.reading world.now.pairs.groups world.now.pairs.recording rank) start [])) }
+{
+    let Some(place) = start else {
+        return Ok(());
+    };
+    match world.pairs.at(rank, place) {
+        Some(call) => add_operation_needs(unmet, world, stands, (rank, place), &call),
+        None => Ok(()),
+    }
+}
+
+/// Adds the same of the request with that index among those that the call at the place completes.
 fn add_request_needs(
     unmet: &mut Vec<Need>,
     world: &World,
@@ -129,13 +147,8 @@ fn add_request_needs(
 ) -> Result<(), AllocError>
     ensures { OnOk result (unmet.new.items ≡ unmet.old.items ++ filter (is_unmet stands.now) (option_map_or (operation_needs_at world.now.reading world.now.pairs.groups world.now.pairs.recording at.0) (completed_of world.now.pairs.recording at.0 at.1 index) [])) }
 {
-    let Some(start) = world.pairs.completed(at.0, at.1, index) else {
-        return Ok(());
-    };
-    match world.pairs.at(at.0, start) {
-        Some(call) => add_operation_needs(unmet, world, stands, (at.0, start), &call),
-        None => Ok(()),
-    }
+    let start = world.pairs.completed(at.0, at.1, index);
+    add_start_needs(unmet, world, stands, at.0, start)
 }
 
 /// Adds the same of each request that the call at the place completes.
@@ -179,6 +192,22 @@ pub(crate) fn unmet_at(
 {
     let mut unmet = Vec::new(alloc);
     add_needs(&mut unmet, world, stands, (rank, stand_of(stands, rank)))?;
+    put_in_order(&mut unmet);
+    Ok(unmet)
+}
+
+/// The unmet needs of the request of the rank that was started at the place, in order and each once.
+pub(crate) fn request_unmet(
+    alloc: Global,
+    world: &World,
+    stands: &[u32],
+    rank: u16,
+    start: Option<u32>,
+) -> Result<Vec<Need>, AllocError>
+    ensures { IfOk result (λ unmet. unmet.items ≡ needs_in_order (filter (is_unmet stands.now) (option_map_or (operation_needs_at world.now.reading world.now.pairs.groups world.now.pairs.recording rank) start []))) }
+{
+    let mut unmet = Vec::new(alloc);
+    add_start_needs(&mut unmet, world, stands, rank, start)?;
     put_in_order(&mut unmet);
     Ok(unmet)
 }

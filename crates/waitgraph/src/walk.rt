@@ -7,8 +7,8 @@
 ghost use Rattle.std.specs.Prelude.{◌≡◌, ◌<◌, ◌++◌, nat_le, length, map, option_map, IfOk, OnOk};
 ghost use Rattle.std.specs.Option.{option_to_list};
 ghost use Rattle.std.specs.List.{filter_map, range_with_len, list_all};
-ghost use Rattle.waitgraph.specs.Causes.{view_of, WalksEndInTheCauses, EachRecordingHasOneListOfCauses};
-ghost use Rattle.waitgraph.specs.inner.Causes.{next_in, lacks_in, way_round, cycle_at, missing_at, causes_in};
+ghost use Rattle.waitgraph.specs.Causes.{StarvedOf, view_of, WalksEndInTheCauses, EachRecordingHasOneListOfCauses};
+ghost use Rattle.waitgraph.specs.inner.Causes.{next_in, lacks_in, way_round, cycle_at, missing_at, starved_at, causes_in};
 
 use crate::cause::Cause;
 use crate::next_hop::NextHop;
@@ -119,7 +119,43 @@ fn add_missing_calls(causes: &mut Vec<Cause>, walks: &[Option<NextHop>]) -> Resu
     Ok(())
 }
 
-/// The cycles by their lowest rank, and then the missing calls by the rank that waits.
+/// The rank itself, if it waits for a message that nobody may send.
+fn starved_in(walks: &[Option<NextHop>], rank: u16) -> Option<u16>
+    ensures { option_map StarvedOf result ≡ starved_at walks.now rank }
+{
+    match walks.get(usize::from(rank)) {
+        Some(Some(NextHop::Nobody)) => Some(rank),
+        _ => None,
+    }
+}
+
+/// Adds the rank, if it is one that waits for a message which nobody may send.
+fn add_starved(
+    causes: &mut Vec<Cause>,
+    walks: &[Option<NextHop>],
+    rank: u16,
+) -> Result<(), AllocError>
+    ensures { OnOk result (map view_of causes.new.items ≡ map view_of causes.old.items ++ option_to_list (starved_at walks.now rank)) }
+{
+    if let Some(rank) = starved_in(walks, rank) {
+        causes.push(Cause::Starved { rank })?;
+    }
+    Ok(())
+}
+
+#[tactic(auto, using(crate::proofs::RangeLemmas::one_given))]
+fn add_starved_ranks(causes: &mut Vec<Cause>, walks: &[Option<NextHop>]) -> Result<(), AllocError>
+    requires { length walks.now < 65536 }
+    ensures { OnOk result (map view_of causes.new.items ≡ map view_of causes.old.items ++ filter_map (starved_at walks.now) (range_with_len 0 (length walks.now))) }
+{
+    for rank in 0..walks.len() as u16 {
+        add_starved(causes, walks, rank)?;
+    }
+    Ok(())
+}
+
+/// The cycles by their lowest rank, the missing calls by the rank that waits, and then the ranks that wait for a message
+/// which nobody may send.
 pub(crate) fn causes_in(alloc: Global, walks: &[Option<NextHop>]) -> Result<Vec<Cause>, AllocError>
     requires { length walks.now < 65536 }
     ensures { IfOk result (λ causes. map view_of causes.items ≡ causes_in walks.now) }
@@ -127,6 +163,7 @@ pub(crate) fn causes_in(alloc: Global, walks: &[Option<NextHop>]) -> Result<Vec<
     let mut causes = Vec::new(alloc);
     add_cycles(alloc, &mut causes, walks)?;
     add_missing_calls(&mut causes, walks)?;
+    add_starved_ranks(&mut causes, walks)?;
     Ok(causes)
 }
 

@@ -29,6 +29,7 @@ fn cause_value(alloc: Global, cause: &Cause) -> Result<Value, AllocError>
             json!(in alloc; {"cycle": ranks})
         }
         Cause::Missing { rank, peer } => json!(in alloc; {"missing": [*rank, *peer]}),
+        Cause::Starved { rank } => json!(in alloc; {"starved": *rank}),
     }
 }
 

@@ -9,7 +9,7 @@ use serde_json::{Value, json};
 use std::alloc::{AllocError, Global};
 
 /// The rank, and the place of its call or null where it lacks the call.
-fn need_value(alloc: Global, need: &Need) -> Result<Value, AllocError>
+pub(crate) fn need_value(alloc: Global, need: &Need) -> Result<Value, AllocError>
     ensures { IfOk result (λ value. view value ≡ need_data need.now) }
 {
     match *need {

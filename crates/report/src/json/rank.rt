@@ -41,7 +41,7 @@ fn present_text(alloc: Global, analyser: &Analyser, rank: u16) -> Result<String,
 }
 
 /// A rank with its stand, its call there and its unmet needs.
-fn rank_value(
+pub(crate) fn rank_value(
     alloc: Global,
     analyser: &Analyser,
     rank: u16,

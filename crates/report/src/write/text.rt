@@ -5,7 +5,7 @@ ghost use Rattle.std.specs.Prelude.{◌≡◌, ◌+◌, ◌≤◌, [], ◌∷◌
 ghost use Rattle.std.specs.Option.{option_map_or};
 ghost use Rattle.std.specs.Fmt.{decimal};
 ghost use Rattle.mpicall.specs.Spelling.{space, fields_of};
-ghost use Rattle.waitgraph.specs.Causes.{CycleOf, MissingOf, view_of};
+ghost use Rattle.waitgraph.specs.Causes.{CycleOf, MissingOf, StarvedOf, view_of};
 ghost use Rattle.waitgraph.specs.Graphs.{IsGraphOf};
 ghost use Rattle.waitgraph.specs.Verdicts.{verdict_by};
 ghost use Rattle.report.specs.inner.Printing.{with_fields, PrintsAll, Prints};
@@ -39,7 +39,7 @@ pub(crate) fn verdict_text(verdict: Verdict) -> &'static str
     }
 }
 
-fn push_verdict(page: &mut Page, verdict: Verdict)
+pub(crate) fn push_verdict(page: &mut Page, verdict: Verdict)
     requires { length page.old + ROOM_BYTES ≤ PAGE_BYTES }
     ensures { page.new ≡ page.old ++ verdict_line verdict }
 {
@@ -69,7 +69,7 @@ fn push_call_at(page: &mut Page, analyser: &Analyser, rank: u16, place: u32)
     }
 }
 
-fn push_need(page: &mut Page, need: &Need)
+pub(crate) fn push_need(page: &mut Page, need: &Need)
     requires { length page.old + 34 ≤ PAGE_BYTES }
     ensures value { page.new ≡ with_fields page.old (need_fields need.now) }
     ensures short { length page.new ≤ length page.old + 34 }
@@ -120,7 +120,7 @@ fn write_unmet<O: Output>(
 
 /// Writes a line for each of the needs of a rank.
 #[tactic(auto, using(crate::proofs::PrintingLemmas::prints_none, crate::proofs::PrintingLemmas::prints_next))]
-fn write_needs<O: Output>(
+pub(crate) fn write_needs<O: Output>(
     printer: &mut Printer,
     out: &mut O,
     analyser: &Analyser,
@@ -219,17 +219,35 @@ fn write_missing<O: Output>(printer: &mut Printer, out: &mut O, rank: u16, peer:
     push_missing(&mut printer.page, rank, peer);
 }
 
+fn push_starved(page: &mut Page, rank: u16)
+    requires { length page.old + ROOM_BYTES ≤ PAGE_BYTES }
+    ensures { page.new ≡ page.old ++ cause_line (StarvedOf rank) }
+{
+    page.push_str("starved");
+    page.push_number(u32::from(rank));
+    page.push_str("\n");
+}
+
+#[tactic(auto, using(crate::proofs::PrintingLemmas::prints_pushed))]
+fn write_starved<O: Output>(printer: &mut Printer, out: &mut O, rank: u16)
+    ensures { Prints O.written O.failures out.old printer.old out.new printer.new (cause_line (StarvedOf rank)) }
+{
+    printer.make_room(out);
+    push_starved(&mut printer.page, rank);
+}
+
 fn write_cause<O: Output>(printer: &mut Printer, out: &mut O, cause: &Cause)
     ensures { Prints O.written O.failures out.old printer.old out.new printer.new (cause_line (view_of cause.now)) }
 {
     match *cause {
         Cause::Cycle(ref ranks) => write_cycle(printer, out, ranks),
         Cause::Missing { rank, peer } => write_missing(printer, out, rank, peer),
+        Cause::Starved { rank } => write_starved(printer, out, rank),
     }
 }
 
 #[tactic(auto, using(crate::proofs::PrintingLemmas::prints_none, crate::proofs::PrintingLemmas::prints_next))]
-fn write_causes<O: Output>(printer: &mut Printer, out: &mut O, causes: &[Cause])
+pub(crate) fn write_causes<O: Output>(printer: &mut Printer, out: &mut O, causes: &[Cause])
     ensures { Prints O.written O.failures out.old printer.old out.new printer.new (flat_map (λ cause. cause_line (view_of cause)) causes.now) }
 {
     for cause in causes {
@@ -255,7 +273,7 @@ fn write_finding<O: Output>(printer: &mut Printer, out: &mut O, finding: &Findin
 }
 
 #[tactic(auto, using(crate::proofs::PrintingLemmas::prints_none, crate::proofs::PrintingLemmas::prints_next))]
-fn write_findings<O: Output>(printer: &mut Printer, out: &mut O, findings: &[Finding])
+pub(crate) fn write_findings<O: Output>(printer: &mut Printer, out: &mut O, findings: &[Finding])
     ensures { Prints O.written O.failures out.old printer.old out.new printer.new (flat_map finding_line findings.now) }
 {
     for finding in findings {
@@ -307,7 +325,7 @@ fn write_left<O: Output>(printer: &mut Printer, out: &mut O, left: &LeftAt)
 
 /// Writes a line for each list that ended before its end.
 #[tactic(auto, using(crate::proofs::PrintingLemmas::prints_none, crate::proofs::PrintingLemmas::prints_next))]
-fn write_all_left<O: Output>(printer: &mut Printer, out: &mut O, left: &[LeftAt])
+pub(crate) fn write_all_left<O: Output>(printer: &mut Printer, out: &mut O, left: &[LeftAt])
     requires { All (λ one. length one.why.now ≤ MOST_WORDS) left.now }
     ensures { Prints O.written O.failures out.old printer.old out.new printer.new (flat_map left_line left.now) }
 {

@@ -6,7 +6,7 @@ use Rattle.mpigroup.specs.Groups.{Groups}
 use Rattle.callstore.specs.Recordings.{Lists}
 use Rattle.moves.specs.Runs.{State}
 use Rattle.moves.specs.Stands.{stands_of}
-use Rattle.waitgraph.specs.Causes.{CauseView, CycleOf, MissingOf}
+use Rattle.waitgraph.specs.Causes.{CauseView, CycleOf, MissingOf, StarvedOf}
 use Rattle.waitgraph.specs.Held.{Set}
 use Rattle.waitgraph.specs.inner.Held.{opened_of, standings_at}
 use Rattle.waitgraph.specs.inner.Loose.{hop_of}
@@ -14,7 +14,7 @@ use Rattle.waitgraph.specs.inner.Waits.{waits_at}
 use Rattle.waitgraph.specs.Waits.{Waits}
 use Rattle.waitgraph.specs.declared.standing.Standing.{Standing}
 use Rattle.waitgraph.specs.declared.next_hop.NextHop.{NextHop}
-use Rattle.waitgraph.specs.declared.next_hop.NextHop.TheVariants.{To, Lacks}
+use Rattle.waitgraph.specs.declared.next_hop.NextHop.TheVariants.{To, Lacks, Nobody}
 
 -- how the walk goes on from each rank; None where the rank isn't held
 abbrev pub Walks : Type 0
@@ -39,11 +39,13 @@ hop_in walks rank = option_and_then (λ there. there) (slice_get walks rank)
 abbrev pub to_of : NextHop → Option ℕ
 to_of (To rank) = Some rank
 to_of (Lacks rank) = None
+to_of Nobody = None
 
 -- the rank that lacks the call at which a walk ends
 abbrev pub lacked_by : NextHop → Option ℕ
 lacked_by (To rank) = None
 lacked_by (Lacks rank) = Some rank
+lacked_by Nobody = None
 
 -- the rank to which the walk goes on from a rank
 abbrev pub next_in : Walks → ℕ → Option ℕ
@@ -71,10 +73,29 @@ cycle_at walks rank = option_and_then (cycle_by rank) (way_round walks (length w
 abbrev pub missing_at : Walks → ℕ → Option CauseView
 missing_at walks rank = option_map (MissingOf rank) (lacks_in walks rank)
 
--- the cycles by their lowest rank, and then the missing calls by the rank that waits
+-- the rank itself, if it waits for a message that nobody may send
+abbrev pub starved_to : ℕ → NextHop → Option CauseView
+starved_to rank Nobody = Some (StarvedOf rank)
+starved_to rank _ = None
+
+abbrev pub starved_at : Walks → ℕ → Option CauseView
+starved_at walks rank = option_and_then (starved_to rank) (hop_in walks rank)
+
+-- the cycles by their lowest rank, the missing calls by the rank that waits, and then the ranks that wait for a message
+-- which nobody may send
 abbrev pub causes_in : Walks → List CauseView
 causes_in walks =
     filter_map (cycle_at walks) (range_with_len 0 (length walks)) ++ filter_map (missing_at walks) (range_with_len 0 (length walks))
+    ++ filter_map (starved_at walks) (range_with_len 0 (length walks))
+
+-- where the walk ends besides at a cycle
+abbrev pub end_to : ℕ → NextHop → Option CauseView
+end_to rank (To next) = None
+end_to rank (Lacks peer) = Some (MissingOf rank peer)
+end_to rank Nobody = Some (StarvedOf rank)
+
+abbrev pub end_at : Walks → ℕ → Option CauseView
+end_at walks rank = option_and_then (end_to rank) (hop_in walks rank)
 
 -- the causes of a recording
 abbrev pub causes_of : Reading → Groups → Lists → List CauseView

@@ -8,7 +8,7 @@ use Rattle.waitgraph.specs.Held.{Set}
 use Rattle.waitgraph.specs.inner.Least.{SetRule, after_rounds, IsWithin, IsClosedUnder}
 use Rattle.waitgraph.specs.Waits.{Waits, needs_in}
 use Rattle.waitgraph.specs.declared.next_hop.NextHop.{NextHop}
-use Rattle.waitgraph.specs.declared.next_hop.NextHop.TheVariants.{To, Lacks}
+use Rattle.waitgraph.specs.declared.next_hop.NextHop.TheVariants.{To, Lacks, Nobody}
 use Rattle.waitgraph.specs.declared.standing.Standing.{Standing}
 use Rattle.waitgraph.specs.declared.standing.Standing.TheVariants.{AtFinalize, AtOpen, Stuck}
 
@@ -79,6 +79,7 @@ abbrev pub GoesOnOrEnds : Set → Set → Option NextHop → Type 0
 GoesOnOrEnds opened held None = ⊥
 GoesOnOrEnds opened held (Some (To next)) = held next ≡ true
 GoesOnOrEnds opened held (Some (Lacks peer)) = opened peer ≡ false
+GoesOnOrEnds opened held (Some Nobody) = ⊥
 
 -- Law: the walk from a held rank goes on to a held rank, or ends at a call that is lacking for good.
 abbrev pub HeldRanksGoOn : Type 0

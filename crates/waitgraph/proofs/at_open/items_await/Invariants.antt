@@ -1,0 +1,8 @@
+use Rattle.std.proofs.Common.{◌≡◌, flat_map, take}
+use Rattle.waitgraph.specs.PendingNeeds.{item_awaits}
+use Rattle.waitgraph.specs.inner.Scenes.{comes, staying}
+use Rattle.waitgraph.proofs.at_open.items_await.Given as goal
+
+-- of the items so far
+abbrev pub invariant-loop-item : goal.invariant-loop-item
+invariant-loop-item l = l.awaits.items ≡ flat_map (item_awaits (comes l.scene l.marks) l.scene.world.now.reading l.scene.world.now.pairs.groups l.scene.world.now.pairs.recording l.scene.stands.now (staying l.marks) l.rank) (take l.item-index l.items)
