@@ -6,6 +6,7 @@ pub mod ReaderLemmas
 pub mod LineLemmas
 pub mod PushLemmas
 pub mod PackingLemmas
+pub mod RememberedLemmas
 mod Rows
 pub mod NoteSteps
 pub mod NoteTable
@@ -26,5 +27,7 @@ pub mod JournalLemmas
 pub mod ReadLines
 pub mod PassLemmas
 pub mod WordLemmas
+pub mod FieldLemmas
+pub mod PieceLemmas
 pub mod PlaceLemmas
 pub mod WholePush

@@ -1,7 +1,12 @@
 -- Notes, as places for more of them are made.
-use Rattle.std.proofs.Common.{◌≡◌, refl, ℕ, zero, suc, Option, None, Some, List, [], ◌∷◌, ◌++◌}
+use Rattle.std.proofs.Common.{◌≡◌, ◌∙◌, ap, sym, refl, arith, ◌==◌, if◌then◌else◌, ℕ, zero, suc, true, Option, None, Some, List, [], ◌∷◌, ◌++◌, length, inl, inr}
+use Rattle.std.proofs.lemmas.Bool.{cases_Bool, eqb-true, eq-eqb, false≢true}
 use Rattle.std.specs.Prelude.{slice_get}
-use Rattle.journals.specs.inner.Notes.{near_or_far}
+use Rattle.journals.specs.inner.Notes.{near_or_far, may_call, by_call, called_note}
+use Rattle.journals.specs.declared.field.Field.{Field}
+use Rattle.journals.specs.declared.form.Form.{Form}
+use Rattle.journals.specs.declared.form.Form.TheVariants.{NewRequest, NewMessage}
+use Rattle.journals.specs.declared.word.CallWord.{CallWord}
 use Rattle.journals.specs.declared.note.Note.{Note}
 
 -- a place without a note says what no place does
@@ -10,3 +15,29 @@ place_more [] far zero = refl
 place_more [] far (suc n) = refl
 place_more (x ∷ xs) far zero = refl
 place_more (x ∷ xs) far (suc n) = place_more xs far n
+
+-- a note that is put at the end is that of the next place
+at_end : (xs : List (Option Note)) (note : Note) (far : Option Note) (n : ℕ) → n ≡ length xs → near_or_far (slice_get (xs ++ Some note ∷ []) n) far ≡ Some note
+at_end [] note far zero is = refl
+at_end [] note far (suc n) is = absurd (omega (arith, is))
+at_end (x ∷ xs) note far zero is = absurd (omega (arith, is))
+at_end (x ∷ xs) note far (suc n) is = at_end xs note far n (omega (arith, is))
+
+elsewhere : (xs : List (Option Note)) (note : Note) (far : Option Note) (n : ℕ) → (n ≡ length xs → ⊥) → near_or_far (slice_get (xs ++ Some note ∷ []) n) far ≡ near_or_far (slice_get xs n) far
+elsewhere [] note far zero apart = absurd (apart refl)
+elsewhere [] note far (suc n) apart = refl
+elsewhere (x ∷ xs) note far zero apart = refl
+elsewhere (x ∷ xs) note far (suc n) apart = elsewhere xs note far n (λ is. apart (ap suc is))
+
+pub put_at_end : (xs : List (Option Note)) (note : Note) (far : Option Note) (number n : ℕ) → number ≡ length xs → near_or_far (slice_get (xs ++ Some note ∷ []) n) far ≡ (if number == n then Some note else near_or_far (slice_get xs n) far)
+put_at_end xs note far number n is =
+    elim (cases_Bool (number == n)) [
+      | inl same ↦ rw same (at_end xs note far n (sym (eqb-true number n same) ∙ is))
+      | inr apart ↦ rw apart (elsewhere xs note far n (λ at. false≢true (sym apart ∙ eq-eqb number n (is ∙ sym at))))
+    ]
+
+-- a line that may name it again is no first one
+pub named : (word : CallWord) (fields : List Field) (line number : ℕ) (form : Form) (note : Note) → may_call line form (Some note) ≡ true → by_call word fields line number form (Some note) ≡ Some (called_note word fields line note)
+named word fields line number NewRequest note may = cc
+named word fields line number NewMessage note may = cc
+named word fields line number form note may = refl

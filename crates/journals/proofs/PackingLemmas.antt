@@ -1,27 +1,26 @@
 -- The lines that are held, as their fields grow and a line is put after them.
-use Rattle.std.proofs.Common.{◌≡◌, ℕ, zero, suc, ◌+◌, ◌-◌, ◌≤◌, List, [], ◌∷◌, ◌++◌, length, take, drop, sym, ap, ◌∙◌, refl, arith, length-append, Some, None, Result, Ok, Err, slice_get}
-use Rattle.std.proofs.lemmas.List.{take-append-le, drop-append-le, drop_at, take_all, length-drop, length-map, map_push}
+use Rattle.std.proofs.Common.{◌≡◌, ℕ, zero, suc, ◌+◌, ◌-◌, ◌≤◌, List, [], ◌∷◌, ◌++◌, length, take, drop, ap, ◌∙◌, refl, arith, length-append, Some, None, Result, Ok, Err, slice_get}
+use Rattle.std.proofs.lemmas.List.{take-append-le, drop-append-le, drop_at, take_all, length-drop}
 use Rattle.std.proofs.lemmas.Option.{slice_get-map}
 use Rattle.journals.specs.Lines.{Line}
 use Rattle.journals.specs.inner.Packing.{fields_in, line_in, lines_in, HasFields}
 use Rattle.journals.specs.Taking.{word_at, fields_at}
-use Rattle.journals.specs.inner.Taking.{Grows, ReadsLine, Takes, TakesLine}
+use Rattle.journals.specs.inner.Taking.{Grows, ReadsLine, TakesLine}
 use Rattle.journals.specs.declared.fault.JournalFaultKind.{JournalFaultKind}
 use Rattle.journals.specs.declared.field.Field.{Field}
 use Rattle.journals.specs.declared.line.LineFault.{LineFault}
 use Rattle.journals.specs.declared.line.LineFault.TheVariants.{Journal, Memory}
 use Rattle.journals.specs.declared.lines.PackedLine.{PackedLine}
-use Rattle.journals.specs.declared.lines.Taken.{Taken}
 use Rattle.journals.specs.declared.word.Word.{Word}
 
 -- ---- More fields ----
 
-same_line : (fields more : List Field) (packed : PackedLine) → packed.start + packed.count ≤ length fields → fields_in (fields ++ more) packed ≡ fields_in fields packed
+pub same_line : (fields more : List Field) (packed : PackedLine) → packed.start + packed.count ≤ length fields → fields_in (fields ++ more) packed ≡ fields_in fields packed
 same_line fields more packed within =
     ap (take packed.count) (drop-append-le packed.start fields more (omega arith))
     ∙ take-append-le packed.count (drop packed.start fields) more (omega (arith, length-drop packed.start fields))
 
-abbrev with_word : Word → List Field → Line
+abbrev pub with_word : Word → List Field → Line
 with_word word fields = record { word = word; fields = fields }
 
 two_same : (first other : Line) (lines others : List Line) → first ≡ other → lines ≡ others → first ∷ lines ≡ other ∷ others
@@ -57,27 +56,11 @@ has_one_more fields (first ∷ lines) packed has within zero d below = has 0 d (
 has_one_more fields (first ∷ lines) packed has within (suc k) d below =
     has_one_more fields lines packed (λ j e h. has (suc j) e (omega arith)) within k d (omega arith)
 
-last_fields : (old more new : List Field) (packed : PackedLine) → new ≡ old ++ more → packed.start ≡ length old → packed.count ≡ length new - length old → fields_in new packed ≡ more
+pub last_fields : (old more new : List Field) (packed : PackedLine) → new ≡ old ++ more → packed.start ≡ length old → packed.count ≡ length new - length old → fields_in new packed ≡ more
 last_fields old more new packed is start count =
     let many : packed.count ≡ length more = omega (arith, ap length is, length-append old more) in
     let first : fields_in new packed ≡ take packed.count more = rw (start, is) (ap (take packed.count) (drop_at old more (length old) refl)) in
     first ∙ take_all packed.count more (omega arith)
-
--- a line that was read comes after the others
-pub line_taken : (said : Result Line JournalFaultKind) (old new : List Field) (lines all : List PackedLine) (packed : PackedLine) (taken : Taken) (word : Word) → ReadsLine said old new (Ok word) → HasFields old lines → all ≡ lines ++ packed ∷ [] → packed.start ≡ length old → packed.count ≡ length new - length old → packed.word ≡ word → taken.line ≡ length lines → taken.word ≡ word → Takes said (lines_in old lines) (lines_in new all) taken
-line_taken said old new lines all packed taken word reads has is start count own place answer =
-    let fields = last_fields old reads.0 new packed reads.2 start count in
-    let stay = lines_stay old new lines (reads.0, reads.2) has in
-    let line = with_word word reads.0 in
-    let here : line_in new packed ≡ line = ap (λ (w : Word). with_word w (fields_in new packed)) own ∙ ap (with_word word) fields in
-    let pushed : lines_in new all ≡ lines_in new lines ++ line_in new packed ∷ [] = rw is (map_push (line_in new) lines packed) in
-    record {
-      line = line;
-      says = reads.1;
-      lines = pushed ∙ ap (λ (ls : List Line). ls ++ line_in new packed ∷ []) stay ∙ ap (λ (l : Line). lines_in old lines ++ l ∷ []) here;
-      place = place ∙ sym (length-map lines (line_in old));
-      word = answer;
-    }
 
 pub none_taken : (said : Result Line JournalFaultKind) (old new : List Field) (lines : List PackedLine) (fault : LineFault) → ReadsLine said old new (Err fault) → HasFields old lines → TakesLine said (lines_in old lines) (lines_in new lines) (Err fault)
 none_taken said old new lines (Journal kind) reads has = (reads.0, lines_stay old new lines reads.1 has)

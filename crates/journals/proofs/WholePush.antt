@@ -1,5 +1,5 @@
 -- All fields of a line, as they are read one after another by the forms of its word.
-use Rattle.std.proofs.Common.{◌≡◌, ◌∙◌, sym, ap, subst, refl, ℕ, zero, suc, ◌+◌, ◌-◌, ◌==◌, ◌≤◌, ◌<◌, ◌&&◌, Bool, true, false, Option, Some, None, option_map, Result, Ok, List, [], ◌∷◌, ◌++◌, length, take, drop, slice_get, arith, append-nil, append_assoc}
+use Rattle.std.proofs.Common.{◌≡◌, ◌∙◌, sym, ap, refl, ℕ, zero, suc, ◌+◌, ◌==◌, ◌≤◌, ◌<◌, ◌&&◌, Bool, true, false, Option, Some, None, option_map, Ok, List, [], ◌∷◌, ◌++◌, length, take, drop, slice_get, arith, append-nil, append_assoc}
 use Rattle.std.proofs.lemmas.Bool.Decides.{nat_tests}
 use Rattle.journals.specs.Words.{forms_of, is_call}
 use Rattle.journals.specs.Fields.{field_of}
@@ -7,7 +7,6 @@ use Rattle.journals.specs.Lines.{begins_with_at, fields_of, is_site, last_field,
 use Rattle.journals.specs.inner.Taking.{line_after_word, Grows, PutsAll, PutsFields, PutsSoFar, ReadsLine}
 use Rattle.journals.specs.declared.field.Field.{Field}
 use Rattle.journals.specs.declared.form.Form.{Form}
-use Rattle.journals.specs.declared.line.LineFault.{LineFault}
 use Rattle.journals.specs.declared.word.Word.{Word}
 use Rattle.journals.proofs.PushLemmas.{Tested, after_word_read, none_pushed, step_some}
 

@@ -1,10 +1,9 @@
 -- A text that begins with `=` is no call word's, and one that doesn't is no report word's.
-use Rattle.std.proofs.Common.{◌≡◌, ◌∙◌, ap, refl, ℕ, ◌==◌, Bool, true, false, Option, Some, None, List, [], ◌∷◌, option_map}
+use Rattle.std.proofs.Common.{◌≡◌, refl, ℕ, true, false, Option, Some, None, List, [], ◌∷◌, option_map}
 use Rattle.std.proofs.lemmas.Bool.{eqb-true}
 use Rattle.mpicall.specs.Word.{or_else}
 use Rattle.journals.specs.Words.{call_word_of, report_word_of, word_of}
 use Rattle.journals.specs.inner.Places.{begins_report}
-use Rattle.journals.specs.declared.word.Word.{Word}
 use Rattle.journals.specs.declared.word.Word.TheVariants.{Call, Report}
 
 no_call : (text : List ℕ) → begins_report text ≡ true → call_word_of text ≡ None

@@ -2,6 +2,8 @@
 pub mod LineWindow
 pub mod Reader
 pub mod Forms
+pub mod Fields
+pub mod Texts
 pub mod Packing
 pub mod Places
 pub mod Taking
@@ -13,3 +15,4 @@ pub mod Notes
 pub mod Knows
 pub mod Journal
 pub mod JournalAnswers
+pub mod Remembered

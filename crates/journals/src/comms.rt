@@ -19,6 +19,7 @@ use crate::notes::number_at;
 use crate::word::{CallWord, ReportWord, Word};
 use std::collections::HashMap;
 
+#[inline(always)]
 fn knows_comm(comms: &HashMap<u32, u32>, comm: u32) -> bool
     ensures { result ≡ is_known comms.now comm }
 {
@@ -26,6 +27,7 @@ fn knows_comm(comms: &HashMap<u32, u32>, comm: u32) -> bool
 }
 
 /// Whether a communicator of this form is known and must not be, or isn't and must be.
+#[inline(always)]
 fn is_wrong(comms: &HashMap<u32, u32>, form: Form, comm: u32) -> bool
     ensures { result ≡ ((is_comm form && not (is_known comms.now comm))
         || (is_new_comm form && is_known comms.now comm)) }
@@ -38,6 +40,7 @@ fn is_wrong(comms: &HashMap<u32, u32>, form: Form, comm: u32) -> bool
 }
 
 /// The place of the field by which a call line names a communicator, if it has one.
+#[inline(always)]
 fn call_comm_place(word: CallWord) -> Option<usize>
     ensures { result ≡ call_comm_place word }
 {
@@ -81,6 +84,7 @@ fn call_comm_place(word: CallWord) -> Option<usize>
 }
 
 /// The place of the only field by which a line names or brings a communicator, if it has one.
+#[inline(always)]
 fn comm_place(word: Word) -> Option<usize>
     ensures { result ≡ comm_place word }
 {
@@ -92,6 +96,7 @@ fn comm_place(word: Word) -> Option<usize>
 }
 
 /// Whether the number at a place is that of a communicator that is known and must not be, or isn't and must be.
+#[inline(always)]
 fn is_wrong_at(comms: &HashMap<u32, u32>, word: Word, fields: &[Field], place: usize) -> bool
     requires fits { length (forms_of word (length fields.now)) ≡ length fields.now }
     requires within { place < length fields.now }
@@ -105,6 +110,7 @@ fn is_wrong_at(comms: &HashMap<u32, u32>, word: Word, fields: &[Field], place: u
 }
 
 /// Whether the communicator that a line names is known, and that which it brings isn't.
+#[inline(always)]
 #[tactic(auto, using(crate::proofs::PlaceLemmas::no_comm, crate::proofs::PlaceLemmas::only_comm, crate::proofs::PlaceLemmas::past_comm, crate::proofs::PlaceLemmas::few_comm))]
 pub(crate) fn knows_comms(comms: &HashMap<u32, u32>, word: Word, fields: &[Field]) -> bool
     requires { length (forms_of word (length fields.now)) ≡ length fields.now }

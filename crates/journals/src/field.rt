@@ -5,10 +5,13 @@
 
 ghost use Rattle.std.specs.Prelude.{◌≡◌, ◌≤◌, option_map, option_and_then, codes};
 ghost use Rattle.mpicall.specs.Number.{negative, signed_of, number_up_to};
+ghost use Rattle.journals.specs.inner.Fields.{number_field};
+ghost use Rattle.journals.specs.inner.Texts.{IsNumber};
 ghost use Rattle.journals.specs.Fields.{natural_of, positive_of, signed_field, peer_field, or_any, or_named, field_of};
 
 use crate::form::Form;
 use crate::limits::GREATEST;
+use crate::texts::Piece;
 use mpicall::number::read_number;
 
 /// What a field is.
@@ -132,5 +135,51 @@ pub fn read_field(ranks: u32, form: Form, text: &[u8]) -> Option<Field>
         Form::SourceTag => source_tag_field(text),
         Form::Colour => colour_field(text),
         Form::Tag | Form::Root | Form::Key => signed_field(text),
+    }
+}
+
+/// The field of a form that is a canonical number up to the greatest one; None if it isn't in the form's range.
+#[inline(always)]
+fn number_field(ranks: u32, form: Form, number: u32) -> Option<Field>
+    requires some { 1 ≤ ranks }
+    requires within { number ≤ GREATEST }
+    ensures { result ≡ number_field ranks form number }
+{
+    match form {
+        Form::NewRequest | Form::NewMessage | Form::Request | Form::Message => {
+            if number == 0 {
+                return None;
+            }
+            Some(Field::Natural(number))
+        }
+        Form::Comm | Form::NewComm | Form::Bytes => Some(Field::Natural(number)),
+        Form::Member => {
+            if number > ranks - 1 {
+                return None;
+            }
+            Some(Field::Natural(number))
+        }
+        Form::Peer
+        | Form::Source
+        | Form::SourceTag
+        | Form::Colour
+        | Form::Tag
+        | Form::Root
+        | Form::Key => Some(Field::Signed(number as i32)),
+    }
+}
+
+/// The field of a form that a text spells, whose number was read with it where it is one; None if it isn't in that form
+/// or its range.
+#[inline(always)]
+#[tactic(auto, using(crate::proofs::FieldLemmas::number_read))]
+pub(crate) fn read_piece(ranks: u32, form: Form, piece: Piece<'_>) -> Option<Field>
+    requires some { 1 ≤ ranks }
+    requires number { IsNumber piece.text.now piece.number }
+    ensures { result ≡ field_of ranks form piece.entry.text.now }
+{
+    match piece.number {
+        Some(number) => number_field(ranks, form, number),
+        None => read_field(ranks, form, piece.text),
     }
 }

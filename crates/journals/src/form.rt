@@ -57,6 +57,7 @@ pub enum More {
 }
 
 /// The forms of the fields that a call word always has.
+#[inline(always)]
 pub(crate) fn call_forms(word: CallWord) -> &'static [Form]
     ensures { result.now ≡ (call_row word).forms }
 {
@@ -104,6 +105,7 @@ const STARTED_EXCHANGE: [Form; 7] = [
 ];
 
 /// The forms of the fields of a collective; none of a word that always has no field.
+#[inline(always)]
 fn collective_forms(word: CallWord) -> &'static [Form]
     ensures { result.now ≡ collective_forms word }
 {
@@ -131,6 +133,7 @@ fn collective_forms(word: CallWord) -> &'static [Form]
 }
 
 /// The forms of the fields that a report word always has.
+#[inline(always)]
 pub(crate) fn report_forms(word: ReportWord) -> &'static [Form]
     ensures { result.now ≡ (report_row word).forms }
 {
@@ -145,6 +148,7 @@ pub(crate) fn report_forms(word: ReportWord) -> &'static [Form]
 }
 
 /// What may follow the fields that a word always has.
+#[inline(always)]
 pub fn more_of(word: Word) -> More
     ensures { result ≡ (row_of word).more }
 {
@@ -165,6 +169,7 @@ pub fn more_of(word: Word) -> More
 }
 
 /// The forms of the fields that a word always has.
+#[inline(always)]
 pub fn forms_of(word: Word) -> &'static [Form]
     ensures { result.now ≡ (row_of word).forms }
 {
@@ -175,6 +180,7 @@ pub fn forms_of(word: Word) -> &'static [Form]
 }
 
 /// Whether a word takes so many fields.
+#[inline(always)]
 pub(crate) fn takes_count(word: Word, count: usize) -> bool
     ensures { result ≡ (length (forms_of word count) == count) }
 {
@@ -187,6 +193,7 @@ pub(crate) fn takes_count(word: Word, count: usize) -> bool
 }
 
 /// The form of the field at a place of the fields that a word takes.
+#[inline(always)]
 pub fn form_at(word: Word, place: usize) -> Option<Form>
     ensures { (count : ℕ) → length (forms_of word count) ≡ count → place < count
         → result ≡ slice_get (forms_of word count) place }

@@ -89,6 +89,7 @@ impl From<AllocError> for JournalError {
 }
 
 /// Why no line of this number was taken.
+#[inline(always)]
 fn fault_at(line: u64, fault: LineFault) -> JournalError
     ensures { result ≡ fault_as line fault }
 {
@@ -100,6 +101,7 @@ fn fault_at(line: u64, fault: LineFault) -> JournalError
 
 /// Looks for the whole line of a number, and answers how many of the held bytes it has, its line feed last;
 /// None at the end.
+#[inline(always)]
 fn find_line<I: Input>(
     window: &mut Window,
     text: &mut TextInput<I>,
@@ -126,6 +128,7 @@ fn find_line<I: Input>(
 }
 
 /// The line that has so many of the held bytes, without its line feed.
+#[inline(always)]
 fn held_line(window: &Window, count: usize) -> &[u8]
     requires { IsLine window.now count }
     ensures line { result.now ≡ take (count - 1) window.now }

@@ -88,6 +88,7 @@ fn may_fail(word: CallWord) -> bool
 }
 
 impl LastCall {
+    #[inline(always)]
     pub(crate) fn new(word: CallWord, line: u32) -> LastCall
         ensures { result ≡ new_last word line }
     {
@@ -102,6 +103,7 @@ impl LastCall {
     }
 
     /// Whether the call, which has these fields, can have one more such report of so many fields.
+    #[inline(always)]
     pub(crate) fn may_have(&self, fields: &[Field], word: ReportWord, count: usize) -> bool
         ensures { result ≡ last_may_have self.now fields.now word count }
     {
@@ -117,6 +119,7 @@ impl LastCall {
     }
 
     /// Notes that it has such a report.
+    #[inline(always)]
     pub(crate) fn note(&mut self, word: ReportWord)
         ensures { self.new ≡ with_report word self.old }
     {
@@ -131,6 +134,7 @@ impl LastCall {
 }
 
 /// Whether a call completes all requests or messages that it names, if it doesn't fail.
+#[inline(always)]
 pub(crate) fn completes_all(word: CallWord, fields: &[Field]) -> bool
     ensures { result ≡ completes_all word fields.now }
 {

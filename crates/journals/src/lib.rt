@@ -20,8 +20,9 @@
 //!
 //! - `reader::next_line` finds the whole lines of a text one after another, however its reads are cut: what
 //!   came before a failed read has no further whole line.
-//! - `line::read_line` reads a line's word and fields, or finds the fault of its form. `Lines::read` puts it
-//!   after the others.
+//! - `line::read_line` reads a line's word and fields, or finds the fault of its form. `texts::Texts` finds the
+//!   texts of a line, and reads the numbers among them in the same pass. `Lines::read` puts a line after the others.
+//!   One that equals one of the last few isn't read again: `remembered::Remembered` finds where that is held.
 //! - `known::Known` holds what the lines so far say of requests, messages, communicators and the last call.
 //!   `Known::admit` finds the first fault of a line by the lines before it, or holds that line too.
 //!
@@ -48,5 +49,7 @@ mod note;
 mod note_table;
 mod notes;
 mod reader;
+mod remembered;
 pub mod text;
+mod texts;
 pub mod word;

@@ -12,9 +12,10 @@ ghost use Rattle.journals.specs.inner.Taking.{fields_after_word, is_stopped, lin
 ghost use Rattle.journals.specs.declared.line.LineFault.TheVariants.{Memory};
 
 use crate::fault::JournalFaultKind;
-use crate::field::{Field, read_field, read_positive};
+use crate::field::{Field, read_field, read_piece, read_positive};
 use crate::form::{form_at, takes_count};
 use crate::limits::MOST_LINE_BYTES;
+use crate::texts::Texts;
 use crate::word::{CallWord, Word, word_of};
 use mpicall::fields::Fields;
 use std::alloc::{AllocError, AllocFailed};
@@ -181,6 +182,7 @@ fn is_call(word: Word) -> bool
     matches!(word, Word::Call(_))
 }
 
+#[inline(always)]
 fn begins_with_at(text: &[u8]) -> bool
     ensures { result ≡ begins_with_at (Some text.now) }
 {
@@ -191,13 +193,13 @@ fn begins_with_at(text: &[u8]) -> bool
 }
 
 /// Whether a text that begins as a site does is that of a call line with so many fields before it, and none after it.
-fn ends_line(word: Word, place: usize, text: &[u8], mut rest: Fields<'_>) -> bool
+fn ends_line(word: Word, place: usize, text: &[u8], mut rest: Texts<'_>) -> bool
     ensures over { result ≡ true → rest.entry ≡ [] }
     ensures call { result ≡ true → is_call word ≡ true }
     ensures takes { result ≡ true → (length (forms_of word place) == place) ≡ true }
     ensures site { result ≡ true → is_site (Some text.now) ≡ true }
 {
-    if rest.next_field().is_some() {
+    if rest.next_text().is_some() {
         return false;
     }
     is_call(word) && takes_count(word, place) && is_site(Some(text))
@@ -205,10 +207,11 @@ fn ends_line(word: Word, place: usize, text: &[u8], mut rest: Fields<'_>) -> boo
 
 /// Reads all fields after a word by its forms, one after another, and puts them at the end of a list; says whether they
 /// are those of a line. Else there may be any more fields in the list.
+#[inline(always)]
 fn push_all(
     ranks: u32,
     word: Word,
-    mut fields: Fields<'_>,
+    mut fields: Texts<'_>,
     into: &mut Vec<Field>,
 ) -> Result<bool, LineFault>
     requires some { 1 ≤ ranks }
@@ -216,14 +219,14 @@ fn push_all(
     ensures { PutsAll ranks word fields.entry into.old.items into.new.items result }
 {
     let mut place = 0;
-    while let Some(text) = fields.next_field() {
-        if begins_with_at(text) {
-            return Ok(ends_line(word, place, text, fields));
+    while let Some(piece) = fields.next_piece() {
+        if begins_with_at(piece.text) {
+            return Ok(ends_line(word, place, piece.text, fields));
         }
         let Some(form) = form_at(word, place) else {
             return Ok(false);
         };
-        let Some(it) = read_field(ranks, form, text) else {
+        let Some(it) = read_piece(ranks, form, piece) else {
             return Ok(false);
         };
         into.push(it)?;
@@ -237,7 +240,7 @@ fn push_after_word(
     ranks: u32,
     word: Word,
     line: &[u8],
-    fields: Fields<'_>,
+    fields: Texts<'_>,
     into: &mut Vec<Field>,
 ) -> Result<Word, LineFault>
     requires some { 1 ≤ ranks }
@@ -269,8 +272,8 @@ pub(crate) fn read_line(ranks: u32, line: &[u8], into: &mut Vec<Field>) -> Resul
     requires short { length line.now < MOST_LINE_BYTES }
     ensures { ReadsLine (line_of ranks line.now) into.old.items into.new.items result }
 {
-    let mut fields = Fields::of(line);
-    let Some(text) = fields.next_field() else {
+    let mut fields = Texts::of(line);
+    let Some(text) = fields.next_text() else {
         return Err(LineFault::Journal(JournalFaultKind::UnknownWord));
     };
     let Some(word) = word_of(text) else {

@@ -1,7 +1,7 @@
 //! The bytes that were read ahead of an input, held in place.
 //!
-//! The buffer has room for two lines of the greatest length. Held bytes are moved to its front only if there
-//! is no room left after them.
+//! The buffer has room for a line of the greatest length and 4 kB more. Held bytes are moved to its front only if
+//! there is no room left after them.
 
 ghost use Rattle.std.specs.Prelude.{◌≡◌, ◌≢◌, true, false, Ok, ◌+◌, ◌-◌, ◌≤◌, ◌<◌, ℕ, List, [], ◌++◌, length, drop, IsTrue, IfOk, MatchOption, OnErr, ◌↔◌};
 ghost use Rattle.std.specs.Io.KnownBytes.{Keeps, prepend_known, IsAtEnd};
@@ -14,7 +14,7 @@ use mpicall::device::{DeviceFault, Input};
 use std::marker::Model;
 
 /// How many bytes may be held.
-const CAPACITY: usize = 65_536;
+const CAPACITY: usize = 36_864;
 
 /// Bytes that were read and not yet used; contracts see their list.
 #[derive(Drop)]
@@ -69,6 +69,7 @@ impl Window {
         }
     }
 
+    #[inline(always)]
     pub(crate) fn held(&self) -> &[u8]
         ensures { result.now ≡ self.now }
     {
@@ -82,6 +83,7 @@ impl Window {
     }
 
     /// Lets the first `count` bytes go.
+    #[inline(always)]
     pub(crate) fn drop_front(&mut self, count: usize)
         requires { count ≤ length self.old }
         ensures { self.new ≡ drop count self.old }
@@ -120,6 +122,7 @@ impl Window {
 }
 
 /// The place of the first line feed, which is not before `from`.
+#[inline(always)]
 pub(crate) fn feed_at(bytes: &[u8], from: usize) -> Option<usize>
     requires within { from ≤ length bytes.now }
     requires before { NoFeedBelow bytes.now from }
@@ -133,6 +136,7 @@ pub(crate) fn feed_at(bytes: &[u8], from: usize) -> Option<usize>
 
 /// Reads on until the next line is held or too long, or no bytes are left; says how many of the held
 /// bytes it has.
+#[inline(always)]
 pub(crate) fn line_end<I: Input>(window: &mut Window, input: &mut I) -> Result<usize, DeviceFault>
     ensures known { Keeps
         (prepend_known window.old (I.left input.old))

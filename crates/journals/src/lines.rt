@@ -1,16 +1,18 @@
 //! The lines of a journal, packed.
 //!
-//! A line has 8 bytes, and its fields stay together in one list of all fields, 8 bytes each. A line with a
-//! fault may leave fields there that no line has.
+//! A line has 8 bytes, and its fields stay together in one list of all fields, 8 bytes each. A line that is remembered
+//! has those of the one before. A line with a fault may leave fields there that no line has.
 
 ghost use Rattle.std.specs.Prelude.{◌≡◌, ◌<◌, ◌≤◌, [], length};
 ghost use Rattle.journals.specs.Lines.{line_of};
 ghost use Rattle.journals.specs.Taking.{word_at, fields_at};
+ghost use Rattle.journals.specs.inner.Packing.{PutsLine};
 ghost use Rattle.journals.specs.inner.Taking.{TakesLine};
 
 use crate::field::Field;
 use crate::limits::MOST_LINE_BYTES;
 use crate::line::{LineFault, read_line};
+use crate::remembered::Remembered;
 use crate::word::Word;
 use std::alloc::Global;
 use std::marker::Model;
@@ -27,7 +29,7 @@ pub(crate) struct Taken {
 
 /// A line: its word, and which of the list of all fields are its own.
 #[derive(Clone, Copy)]
-struct PackedLine {
+pub(crate) struct PackedLine {
     start: u32,
     count: u16,
     word: Word,
@@ -38,18 +40,37 @@ struct PackedLine {
 pub struct Lines {
     lines: Vec<PackedLine>,
     fields: Vec<Field>,
+    remembered: Remembered,
+}
+
+/// Puts a line after the others, where its fields are held; answers its place.
+#[inline(always)]
+fn push(lines: &mut Vec<PackedLine>, packed: PackedLine) -> Result<Taken, LineFault>
+    ensures { PutsLine packed lines.old.items lines.new.items result }
+{
+    let place = lines.len();
+    if place >= MOST {
+        return Err(LineFault::Memory);
+    }
+    lines.push(packed)?;
+    Ok(Taken {
+        line: place as u32,
+        word: packed.word,
+    })
 }
 
 impl Model for Lines {
     ghost use Rattle.std.specs.Prelude.{List};
     ghost use Rattle.journals.specs.Lines.{Line};
     ghost use Rattle.journals.specs.inner.Packing.{lines_in, HasFields};
+    ghost use Rattle.journals.specs.inner.Remembered.{AreHeld};
 
     ghost Value = { List Line };
 
     ghost view = { λ l. lines_in l.fields.items l.lines.items };
 
-    ghost invariant = { λ l. HasFields l.fields.items l.lines.items };
+    ghost invariant = { λ l. (HasFields l.fields.items l.lines.items)
+        × (AreHeld l.fields.items l.remembered.known) };
 }
 
 impl Lines {
@@ -59,6 +80,7 @@ impl Lines {
         Lines {
             lines: Vec::new(alloc),
             fields: Vec::new(alloc),
+            remembered: Remembered::new(),
         }
     }
 
@@ -77,6 +99,7 @@ impl Lines {
     }
 
     /// The fields of a line; none beyond the last one.
+    #[inline(always)]
     pub fn fields(&self, line: u32) -> &[Field]
         ensures { result.now ≡ fields_at self.now line }
     {
@@ -92,19 +115,22 @@ impl Lines {
 
     /// Reads a line, without its line feed, of a run of so many ranks, and puts it after the others; answers
     /// its place.
+    #[inline(always)]
     pub(crate) fn read(&mut self, ranks: u32, line: &[u8]) -> Result<Taken, LineFault>
         requires some { 1 ≤ ranks }
         requires short { length line.now < MOST_LINE_BYTES }
         ensures { TakesLine (line_of ranks line.now) self.old self.new result }
     {
+        if let Some(packed) = self.remembered.find(ranks, line) {
+            return push(&mut self.lines, packed);
+        }
         let start = self.fields.len();
         let word = match read_line(ranks, line, &mut self.fields) {
             Ok(word) => word,
             Err(fault) => return Err(fault),
         };
-        let place = self.lines.len();
         let count = self.fields.len().saturating_sub(start);
-        if place >= MOST || start >= MOST || count > MOST_LINE_BYTES {
+        if start >= MOST || count > MOST_LINE_BYTES {
             return Err(LineFault::Memory);
         }
         let packed = PackedLine {
@@ -112,10 +138,7 @@ impl Lines {
             count: count as u16,
             word,
         };
-        self.lines.push(packed)?;
-        Ok(Taken {
-            line: place as u32,
-            word,
-        })
+        self.remembered.keep(ranks, line, packed);
+        push(&mut self.lines, packed)
     }
 }

@@ -34,6 +34,7 @@ pub(crate) struct Note {
 }
 
 /// Whether a receive with this source and tag has a wildcard; one from nobody has none.
+#[inline(always)]
 fn has_wildcard(source: Field, tag: Field) -> bool
     ensures { result ≡ has_wildcard (source, tag) }
 {
@@ -44,6 +45,7 @@ fn has_wildcard(source: Field, tag: Field) -> bool
     }
 }
 
+#[inline(always)]
 fn is_received(fields: &[Field], number: u32) -> bool
     ensures { result ≡ is_wildcard (receive_in number (Call CallWord.Irecv) fields.now) }
 {
@@ -67,6 +69,7 @@ fn is_exchanged(fields: &[Field], number: u32) -> bool
 }
 
 /// Whether the request that a call line numbers is that of a receive with a wildcard.
+#[inline(always)]
 fn awaits_any(word: CallWord, fields: &[Field], number: u32) -> bool
     ensures { result ≡ is_wildcard (receive_in number (Call word) fields.now) }
 {
@@ -93,6 +96,7 @@ fn duplicated_in(fields: &[Field], number: u32) -> Option<u32>
 }
 
 /// The communicator that a call line duplicates by a request.
+#[inline(always)]
 fn parent_of(word: CallWord, fields: &[Field], number: u32) -> Option<u32>
     ensures { result ≡ duplicated_in number (Call word) fields.now }
 {
@@ -104,6 +108,7 @@ fn parent_of(word: CallWord, fields: &[Field], number: u32) -> Option<u32>
 
 impl Note {
     /// What a call line says of a request that it numbers.
+    #[inline(always)]
     pub(crate) fn of_request(word: CallWord, fields: &[Field], line: u32, number: u32) -> Note
         ensures { result ≡ request_note word fields.now line number }
     {
@@ -138,6 +143,7 @@ impl Note {
     }
 
     /// Whether a call line may name it: it isn't completed, and the line named it nowhere before.
+    #[inline(always)]
     pub(crate) fn is_callable(&self, line: u32) -> bool
         ensures { result ≡ is_callable line self.now }
     {
@@ -145,6 +151,7 @@ impl Note {
     }
 
     /// What it is once a call line names it.
+    #[inline(always)]
     pub(crate) fn when_called(self, word: CallWord, fields: &[Field], line: u32) -> Note
         ensures { result ≡ called_note word fields.now line self }
     {
@@ -162,6 +169,7 @@ impl Note {
     }
 
     /// Whether the report of this line names it already.
+    #[inline(always)]
     pub(crate) fn is_reported(&self, line: u32) -> bool
         ensures { result ≡ is_now line self.now.reported }
     {
@@ -172,6 +180,7 @@ impl Note {
     }
 
     /// What it is once a report names it; `completed` is the call line that completed it by this report.
+    #[inline(always)]
     pub(crate) fn when_reported(self, word: ReportWord, line: u32, completed: Option<u32>) -> Note
         ensures { result ≡ reported_note word line completed self }
     {

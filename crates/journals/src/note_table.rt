@@ -3,10 +3,12 @@
 //! Most programs number them one after another, so a list has their notes in that order. A number that is far
 //! beyond those before it has its note in a map.
 
-ghost use Rattle.std.specs.Prelude.{◌≡◌, ◌==◌, ◌≤◌, ◌<◌, ◌+◌, ℕ, None, Some, OnOk, if◌then◌else◌, length};
-ghost use Rattle.journals.specs.inner.Notes.{note_at};
+ghost use Rattle.std.specs.Prelude.{◌≡◌, ◌==◌, ◌≤◌, ◌<◌, ◌+◌, ℕ, None, Some, true, IfOk, MatchBool, OnOk, if◌then◌else◌, length};
+ghost use Rattle.journals.specs.inner.Notes.{note_at, may_call, by_call};
 
+use crate::form::Form;
 use crate::note::Note;
+use crate::notes::{CallLine, may_call};
 use std::alloc::{AllocError, Global};
 use std::collections::HashMap;
 
@@ -28,6 +30,7 @@ impl Notes {
     }
 
     /// The note of a number, if it has one.
+    #[inline(always)]
     pub(crate) fn get(&self, number: u32) -> Option<Note>
         ensures { result ≡ note_at self.now number }
     {
@@ -38,6 +41,7 @@ impl Notes {
     }
 
     /// Has a place in the list for a number that comes next, or next but one.
+    #[inline(always)]
     #[tactic(auto, using(crate::proofs::NoteTable::place_more))]
     fn make_room(&mut self, place: usize) -> Result<(), AllocError>
         ensures { OnOk result ((number : ℕ) → note_at self.new number ≡ note_at self.old number) }
@@ -53,7 +57,50 @@ impl Notes {
         Ok(())
     }
 
+    /// Notes that a call line names a number in a field of this form, where its note is in the list and the line may;
+    /// says whether it did.
+    #[inline(always)]
+    #[tactic(auto, using(crate::proofs::NoteTable::named))]
+    pub(crate) fn name_near(&mut self, call: CallLine<'_>, form: Form, number: u32) -> bool
+        ensures { MatchBool result
+            ((may_call call.entry.line form (note_at self.old number) ≡ true)
+            × ((other : ℕ) → note_at self.new other
+            ≡ (if number == other
+            then by_call call.entry.word call.entry.fields.now call.entry.line number form
+            (note_at self.old number)
+            else note_at self.old other)))
+            (self.new ≡ self.old) }
+    {
+        let place = number as usize;
+        let Some(Some(note)) = self.near.get(place).copied() else {
+            return false;
+        };
+        if !may_call(call.line, form, Some(note)) {
+            return false;
+        }
+        self.near[place] = Some(note.when_called(call.word, call.fields, call.line));
+        true
+    }
+
+    /// Gives the number that is the next of the list its first note; says whether it is that.
+    #[inline(always)]
+    #[tactic(auto, using(crate::proofs::NoteTable::put_at_end))]
+    pub(crate) fn begin_next(&mut self, number: u32, note: Note) -> Result<bool, AllocError>
+        ensures { IfOk result (λ next. MatchBool next
+            ((note_at self.old number ≡ None)
+            × ((other : ℕ) → note_at self.new other
+            ≡ (if number == other then Some note else note_at self.old other)))
+            (self.new ≡ self.old)) }
+    {
+        if number as usize != self.near.len() || self.get(number).is_some() {
+            return Ok(false);
+        }
+        self.near.push(Some(note))?;
+        Ok(true)
+    }
+
     /// Gives a number this note.
+    #[inline(always)]
     pub(crate) fn put(&mut self, number: u32, note: Note) -> Result<(), AllocError>
         ensures { OnOk result ((other : ℕ) → note_at self.new other
             ≡ (if number == other then Some note else note_at self.old other)) }

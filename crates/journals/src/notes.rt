@@ -41,6 +41,7 @@ pub(crate) struct ReportLine<'a> {
 }
 
 /// Whether a field of this form is the number of a request or a message.
+#[inline(always)]
 fn is_of_request(form: Form) -> bool
     ensures { result ≡ is_of_request form }
 {
@@ -51,6 +52,7 @@ fn is_of_request(form: Form) -> bool
 }
 
 /// The number that a field of a form is, if it is one.
+#[inline(always)]
 fn number_of(form: Option<Form>, field: Field) -> Option<(Form, u32)>
     ensures { result ≡ number_of form field }
 {
@@ -61,6 +63,7 @@ fn number_of(form: Option<Form>, field: Field) -> Option<(Form, u32)>
 }
 
 /// The number at a place of a line's fields, with its form; None if there is none.
+#[inline(always)]
 pub(crate) fn number_at(word: Word, fields: &[Field], place: usize) -> Option<(Form, u32)>
     requires fits { length (forms_of word (length fields.now)) ≡ length fields.now }
     requires within { place < length fields.now }
@@ -71,7 +74,8 @@ pub(crate) fn number_at(word: Word, fields: &[Field], place: usize) -> Option<(F
 }
 
 /// Whether a call line may have this number in a field of this form.
-fn may_call(line: u32, form: Form, note: Option<Note>) -> bool
+#[inline(always)]
+pub(crate) fn may_call(line: u32, form: Form, note: Option<Note>) -> bool
     ensures { result ≡ may_call line form note }
 {
     match form {
@@ -89,6 +93,7 @@ fn may_call(line: u32, form: Form, note: Option<Note>) -> bool
 }
 
 /// What is known of a number once a call line has it in a field of this form.
+#[inline(always)]
 fn by_call(call: CallLine<'_>, form: Form, number: u32, note: Option<Note>) -> Option<Note>
     ensures { result ≡ by_call call.entry.word call.entry.fields.now call.entry.line number form note }
 {
@@ -103,6 +108,7 @@ fn by_call(call: CallLine<'_>, form: Form, number: u32, note: Option<Note>) -> O
 }
 
 /// Notes what a call line says of one number.
+#[inline(always)]
 fn use_in_call(
     notes: &mut Notes,
     call: CallLine<'_>,
@@ -119,6 +125,15 @@ fn use_in_call(
     ensures fault { IfErr result (IsFault Request
         (may_call call.entry.line form (note_at notes.old number) ≡ false)) }
 {
+    if notes.name_near(call, form, number) {
+        return Ok(());
+    }
+    if let Form::NewRequest = form {
+        let note = Note::of_request(call.word, call.fields, call.line, number);
+        if notes.begin_next(number, note)? {
+            return Ok(());
+        }
+    }
     let note = notes.get(number);
     if !may_call(call.line, form, note) {
         return Err(LineFault::Journal(JournalFaultKind::Request));
@@ -130,6 +145,7 @@ fn use_in_call(
 }
 
 /// How many of the first fields of a call line may be requests or messages; None where all may.
+#[inline(always)]
 fn requests_first(word: CallWord) -> Option<usize>
     ensures { result ≡ requests_first word }
 {
@@ -162,6 +178,7 @@ fn requests_first(word: CallWord) -> Option<usize>
 }
 
 /// How many of the first fields are looked at: none after them is a request or a message.
+#[inline(always)]
 fn looked_at(word: CallWord, count: usize) -> usize
     ensures value { result ≡ looked_at (requests_first word) count }
     ensures within { result ≤ count }
@@ -198,6 +215,7 @@ pub(crate) fn note_call(notes: &mut Notes, call: CallLine<'_>) -> Result<(), Lin
 }
 
 /// Notes what a report says of one number; says whether it may.
+#[inline(always)]
 fn use_in_report(
     notes: &mut Notes,
     report: ReportLine<'_>,

@@ -28,6 +28,7 @@ pub(crate) enum NextLine {
 }
 
 /// Whether the last of the first `count` bytes is a line feed.
+#[inline(always)]
 fn ends_line(held: &[u8], count: usize) -> bool
     requires { count ≤ length held.now }
     ensures { MatchBool result
@@ -69,6 +70,7 @@ fn skip_long<I: Input>(
 }
 
 /// Looks for the next whole line. A text may have no end, so this may wait for good in a line without end.
+#[inline(always)]
 pub(crate) fn next_line<I: Input>(
     window: &mut Window,
     text: &mut TextInput<I>,

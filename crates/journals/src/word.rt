@@ -3,6 +3,7 @@
 //! They are looked up in two tables, of call lines and of reports, in which words that come often are first.
 
 ghost use Rattle.std.specs.Prelude.{◌≡◌, map};
+ghost use Rattle.std.specs.Str.{bytes_eq};
 ghost use Rattle.journals.specs.Words.{word_in, call_word_of, report_word_of, word_of};
 ghost use Rattle.journals.specs.inner.Places.{begins_report};
 
@@ -177,12 +178,30 @@ const REPORTS: [(&str, ReportWord); 10] = [
     ("=failed", ReportWord::Failed),
 ];
 
+/// Whether two texts are the same. Words are short, so they are compared byte by byte.
+#[inline(always)]
+pub(crate) fn are_same(mut one: &[u8], mut other: &[u8]) -> bool
+    ensures { result ≡ bytes_eq one.entry.now other.entry.now }
+{
+    while let [byte, rest @ ..] = one {
+        let [its, its_rest @ ..] = other else {
+            return false;
+        };
+        if *byte != *its {
+            return false;
+        }
+        one = rest;
+        other = its_rest;
+    }
+    other.is_empty()
+}
+
 /// The call word of a table that a field spells, if there is one.
 fn call_in(mut table: &[(&str, CallWord)], field: &[u8]) -> Option<CallWord>
     ensures { result ≡ word_in (map (λ row. (row.0.now, row.1)) table.entry.now) field.now }
 {
     while let [row, rest @ ..] = table {
-        if field == row.0.as_bytes() {
+        if are_same(field, row.0.as_bytes()) {
             return Some(row.1);
         }
         table = rest;
@@ -195,7 +214,7 @@ fn report_in(mut table: &[(&str, ReportWord)], field: &[u8]) -> Option<ReportWor
     ensures { result ≡ word_in (map (λ row. (row.0.now, row.1)) table.entry.now) field.now }
 {
     while let [row, rest @ ..] = table {
-        if field == row.0.as_bytes() {
+        if are_same(field, row.0.as_bytes()) {
             return Some(row.1);
         }
         table = rest;

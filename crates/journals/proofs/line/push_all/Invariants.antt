@@ -4,13 +4,13 @@ use Rattle.journals.specs.inner.Taking.{Grows}
 use Rattle.journals.proofs.WholePush.{NoSiteYet, PutsEach}
 use Rattle.journals.proofs.line.push_all.Given as goal
 
-abbrev pub invariant-loop-text : goal.invariant-loop-text
-invariant-loop-text l = record {
+abbrev pub invariant-loop-piece : goal.invariant-loop-piece
+invariant-loop-piece l = record {
   left : l.place + length l.fields ≡ length l.initial.fields;
   grows : Grows l.initial.into.items l.into.items;
   each : PutsEach l.ranks l.word l.initial.fields l.place l.fields l.initial.into.items l.into.items;
   none : NoSiteYet l.initial.fields l.fields;
 }
 
-abbrev pub decreases-loop-text : goal.decreases-loop-text
-decreases-loop-text l = length l.fields
+abbrev pub decreases-loop-piece : goal.decreases-loop-piece
+decreases-loop-piece l = length l.fields

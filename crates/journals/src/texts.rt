@@ -1,0 +1,151 @@
+//! The texts of a line: what lies between its single spaces.
+//!
+//! Most are numbers, so a number is read as its text is found, in one pass over its digits.
+
+ghost use Rattle.std.specs.Prelude.{◌≡◌, ◌≤◌, ◌==◌, [], ◌∷◌, length, position, IfSome, MatchOption};
+ghost use Rattle.mpicall.specs.Number.{has_leading_zero};
+ghost use Rattle.mpicall.specs.Spelling.{space};
+ghost use Rattle.mpicall.specs.Lines.{split_fields};
+ghost use Rattle.mpicall.specs.inner.Front.{IsFront};
+ghost use Rattle.journals.specs.inner.Texts.{IsNumber};
+
+use crate::limits::GREATEST;
+use std::marker::Model;
+
+/// The texts that are still to come; contracts see their list.
+#[derive(Clone, Drop)]
+pub(crate) struct Texts<'a> {
+    rest: Option<&'a [u8]>,
+}
+
+impl<'a> Model for Texts<'a> {
+    ghost use Rattle.std.specs.Prelude.{List, ℕ};
+    ghost use Rattle.mpicall.specs.inner.Lines.{split_some};
+
+    ghost Value = { List (List ℕ) };
+
+    ghost view = { λ t. split_some t.rest };
+}
+
+/// A text, and the number that it spells, where that was read with it.
+#[derive(Clone, Copy)]
+pub(crate) struct Piece<'a> {
+    pub text: &'a [u8],
+    pub number: Option<u32>,
+}
+
+/// Decimal digits at the front of some bytes: how many there are, and the number that they write.
+#[derive(Clone, Copy)]
+struct Front {
+    count: usize,
+    number: u32,
+}
+
+/// The digits before the first space of some bytes, or all of them where there is no space. None where another byte
+/// comes first, or where they write a number above the greatest one.
+#[inline(always)]
+fn read_front(bytes: &[u8]) -> Option<Front>
+    ensures { IfSome result (λ front. IsFront GREATEST bytes.now front.count front.number) }
+{
+    let mut number = 0;
+    for at in 0..bytes.len() {
+        let byte = bytes[at];
+        if !byte.is_ascii_digit() {
+            if byte != b' ' {
+                return None;
+            }
+            return Some(Front { count: at, number });
+        }
+        let next = u64::from(number) * 10 + u64::from(byte - b'0');
+        if next > u64::from(GREATEST) {
+            return None;
+        }
+        number = next as u32;
+    }
+    Some(Front {
+        count: bytes.len(),
+        number,
+    })
+}
+
+/// Whether a text has a `0` before further bytes.
+#[inline(always)]
+fn has_leading_zero(text: &[u8]) -> bool
+    ensures { result ≡ has_leading_zero text.now }
+{
+    text.len() > 1 && text[0] == b'0'
+}
+
+/// Where the first space of some bytes stands, if they have one.
+#[inline(always)]
+fn space_at(bytes: &[u8]) -> Option<usize>
+    ensures { result ≡ position (λ byte. byte == space) bytes.now }
+{
+    bytes.iter().position(|byte| *byte == b' ')
+}
+
+impl<'a> Texts<'a> {
+    /// The texts of a line, of which there is one at least.
+    pub(crate) fn of(line: &'a [u8]) -> Texts<'a>
+        ensures { result ≡ split_fields line.now }
+    {
+        Texts { rest: Some(line) }
+    }
+
+    /// The next text, which may have no bytes; None once all have come.
+    #[inline(always)]
+    #[tactic(auto, using(mpicall::proofs::FieldLemmas::field_steps))]
+    pub(crate) fn next_text(&mut self) -> Option<&'a [u8]>
+        ensures { MatchOption result ((self.old ≡ []) × (self.new ≡ [])) (λ text. self.old ≡ text.now ∷ self.new) }
+    {
+        let rest = self.rest?;
+        match space_at(rest) {
+            None => {
+                self.rest = None;
+                Some(rest)
+            }
+            Some(at) => {
+                self.rest = Some(&rest[at + 1..]);
+                Some(&rest[..at])
+            }
+        }
+    }
+
+    /// The next text with its number, where it is a canonical one up to the greatest. Else the texts stay as they are.
+    #[inline(always)]
+    fn next_number(&mut self) -> Option<Piece<'a>>
+        ensures { MatchOption result (self.new ≡ self.old)
+            (λ piece. (self.old ≡ piece.text.now ∷ self.new) × IsNumber piece.text.now piece.number) }
+    {
+        let rest = self.rest?;
+        let front = read_front(rest)?;
+        if front.count == 0 || has_leading_zero(&rest[..front.count]) {
+            return None;
+        }
+        let piece = Piece {
+            text: &rest[..front.count],
+            number: Some(front.number),
+        };
+        if front.count < rest.len() {
+            self.rest = Some(&rest[front.count + 1..]);
+            return Some(piece);
+        }
+        self.rest = None;
+        Some(piece)
+    }
+
+    /// The next text, with its number where it is a canonical one up to the greatest; None once all have come.
+    #[inline(always)]
+    pub(crate) fn next_piece(&mut self) -> Option<Piece<'a>>
+        ensures { MatchOption result ((self.old ≡ []) × (self.new ≡ []))
+            (λ piece. (self.old ≡ piece.text.now ∷ self.new) × IsNumber piece.text.now piece.number) }
+    {
+        if let Some(piece) = self.next_number() {
+            return Some(piece);
+        }
+        match self.next_text() {
+            Some(text) => Some(Piece { text, number: None }),
+            None => None,
+        }
+    }
+}
