@@ -7,6 +7,7 @@ use Rattle.closing.specs.declared.choice.Calls.TheVariants.{Strict, Went}
 use Rattle.closing.specs.declared.choice.Choice.{Choice}
 use Rattle.closing.specs.declared.choice.Tests.{Tests}
 use Rattle.closing.specs.declared.choice.Tests.TheVariants.{Wait, Pass}
+use Rattle.closing.specs.declared.choice.Unreported.TheVariants.{Ends}
 use Rattle.judging.specs.declared.judge.Manner.{Manner}
 use Rattle.moves.specs.declared.reading.Reading.{Reading}
 use Rattle.report.specs.declared.write.Format.{Format}
@@ -43,7 +44,7 @@ calls_in word = if bytes_eq word (codes "strict") then Some Strict else (if byte
 
 -- how journals are closed, if each word is one of its option's
 abbrev pub choice_by : Option Tests → Option Calls → Option Choice
-choice_by (Some tests) (Some calls) = Some (record { tests = tests; calls = calls })
+choice_by (Some tests) (Some calls) = Some (record { tests = tests; calls = calls; unreported = Ends })
 choice_by _ _ = None
 
 abbrev pub choice_of : List Row → Option Choice

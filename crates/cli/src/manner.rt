@@ -9,7 +9,7 @@ use crate::found::text_of;
 use crate::limit::read_reading;
 use crate::options::{eager_argument, format_of, json_argument, progress_argument};
 use clap::{Arg, ArgMatches};
-use closing::choice::{Calls, Choice, Tests};
+use closing::choice::{Calls, Choice, Tests, Unreported};
 use judging::judge::Manner;
 use moves::reading::Reading;
 use report::write::Format;
@@ -110,6 +110,7 @@ fn choice_by(tests: Option<Tests>, calls: Option<Calls>) -> Option<Choice>
     Some(Choice {
         tests: tests?,
         calls: calls?,
+        unreported: Unreported::Ends,
     })
 }
 

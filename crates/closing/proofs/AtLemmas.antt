@@ -216,13 +216,14 @@ numbered_lines run rank journal fit there = sym (ap (λ (it : Option Journal). c
 
 -- all that is kept of where the call stands
 pub at_is : (run : Run) (choice : Choice) (placed : Placed) (kept : Communicators) (it : At) → IsNumberedRun run kept → IsFitEntry run placed → HasNamed run kept.keys placed it.named
-    → IsWaveOf kept.keys it.wave (wave_at placed) → it.is_past ≡ is_past choice.calls placed → option_map message_view it.got ≡ got_in placed.entry
+    → IsWaveOf kept.keys it.wave (wave_at placed) → placed.came_back ≡ it.came_back → it.is_past ≡ is_past choice.calls placed → option_map message_view it.got ≡ got_in placed.entry
     → option_map (λ fields. naturals_in fields.now) it.chose ≡ option_map (λ line. requests_in (Some line)) (report_of report.Chose placed.entry)
     → IsPlaceOf kept.keys it.made (key_made run placed)
     → IsAtEntry run choice placed kept it
-at_is run choice placed kept it numbered fit named wave past got chose made = record {
+at_is run choice placed kept it numbered fit named wave back past got chose made = record {
   at = record { size = named.size; small = fit.small; number = named.number; is_past = past; got = got; chose = chose };
   numbered = numbered;
+  came_back = back;
   named = named.place;
   wave = wave;
   made = made;

@@ -7,7 +7,8 @@ use Rattle.closing.specs.Entries.{Run, Placed}
 use Rattle.closing.specs.Endings.{breaks_off}
 use Rattle.closing.specs.Entry.{Choice}
 use Rattle.closing.specs.Steps.{Id, Progress, WaitsForAll, WaitsForLate, after_step, after_steps}
-use Rattle.closing.specs.Recording.{Ends, GoesOn, Outcome, is_end, outcome_of}
+use Rattle.closing.specs.Recording.{is_end, outcome_of}
+use Rattle.closing.specs.Sinks.{Ends, GoesOn, Outcome}
 use Rattle.closing.specs.inner.Lists.{Handed, ComesTo, Stands}
 use Rattle.closing.specs.inner.SoFar.{Entered}
 use Rattle.closing.specs.inner.Walked.{EndsAt, Follows}
@@ -16,47 +17,59 @@ use Rattle.closing.specs.declared.list.List.{List as ListCode}
 use Rattle.closing.specs.declared.stop.Stop.{Stop}
 use Rattle.closing.specs.declared.stop.Stop.TheVariants.{Left, Memory}
 use Rattle.closing.specs.declared.why.Why.{Why}
-use Rattle.closing.specs.declared.why.Why.TheVariants.{NeverCameBack, NeverReported, Failed, NoNumber, TooLong, CannotBe, Stopped, Aborted, Full, NoJournal}
+use Rattle.closing.specs.declared.why.Why.TheVariants.{NeverCameBack, NeverReported, Failed, NoNumber, TooLong, CannotBe, Stopped, Aborted, Full, NoJournal, NotJudged}
 use Rattle.closing.proofs.GrownLemmas.{same_records}
 use Rattle.closing.proofs.OutcomeOfEntry.{broken_is, ended_is, failed_is, goes_on_past}
 use Rattle.closing.proofs.StepsLemmas.{ends_cut, still_cut}
 
 -- ---- What the rank does from here on isn't known ----
 
--- such a call doesn't end a list that is too long
-not_long : (it : Called) (why : Why) → breaks_off it ≡ Some why → why ≡ TooLong → ⊥
-not_long (Sends mode sent) why e long = cc (e)
-not_long (StartsSend request mode sent) why e long = cc (e)
-not_long (Receives awaited) why e long = cc (e)
-not_long (StartsReceive request awaited) why e long = cc (e)
-not_long (Exchanges sent awaited) why e long = cc (e)
-not_long (StartsExchange request received sent awaited) why e long = cc (e)
-not_long (Probes awaited) why e long = cc (e)
-not_long (ProbesMatching message awaited) why e long = cc (e)
-not_long (ReceivesMatched message) why e long = cc (e)
-not_long (StartsMatched request message) why e long = cc (e)
-not_long (Waits requests) why e long = cc (e)
-not_long (Tests requests) why e long = cc (e)
-not_long (WaitsAny requests) why e long = cc (e)
-not_long (WaitsSome requests) why e long = cc (e)
-not_long (Cancels request) why e long = cc (e)
-not_long (FreesRequest request) why e long = cc (e)
-not_long (Collects collective comm root) why e long = cc (e)
-not_long (StartsCollective request collective comm root) why e long = cc (e)
-not_long (Duplicates comm) why e long = cc (e)
-not_long (StartsDuplicate request comm) why e long = cc (e)
-not_long (Splits comm colour key) why e long = cc (e)
-not_long (Makes comm) why e long = cc (e)
-not_long (MakesOfGroup group) why e long = cc (e)
-not_long (FreesComm comm) why e long = cc (e)
-not_long Nothing why e long = cc (e)
-not_long Finalizes why e long = cc (e)
-not_long Exits why e long = cc (e)
-not_long Aborts why e long = cc (e, long)
-not_long Fills why e long = cc (e, long)
-not_long Stops why e long = cc (e, long)
+-- the reasons of such a call
+abbrev pub IsBroken : Why → Type 0
+IsBroken Stopped = Unit {0}
+IsBroken Aborted = Unit {0}
+IsBroken Full = Unit {0}
+IsBroken why = ⊥
 
-found_stands : (handed : Handed) (progress : Progress) (line : ℕ) (it : ListCode) (why : Why) → (why ≡ TooLong → ⊥) → Stands handed progress it
+pub broken_why : (it : Called) (why : Why) → breaks_off it ≡ Some why → IsBroken why
+broken_why (Sends mode sent) why e = absurd (cc (e))
+broken_why (StartsSend request mode sent) why e = absurd (cc (e))
+broken_why (Receives awaited) why e = absurd (cc (e))
+broken_why (StartsReceive request awaited) why e = absurd (cc (e))
+broken_why (Exchanges sent awaited) why e = absurd (cc (e))
+broken_why (StartsExchange request received sent awaited) why e = absurd (cc (e))
+broken_why (Probes awaited) why e = absurd (cc (e))
+broken_why (ProbesMatching message awaited) why e = absurd (cc (e))
+broken_why (ReceivesMatched message) why e = absurd (cc (e))
+broken_why (StartsMatched request message) why e = absurd (cc (e))
+broken_why (Waits requests) why e = absurd (cc (e))
+broken_why (Tests requests) why e = absurd (cc (e))
+broken_why (WaitsAny requests) why e = absurd (cc (e))
+broken_why (WaitsSome requests) why e = absurd (cc (e))
+broken_why (Cancels request) why e = absurd (cc (e))
+broken_why (FreesRequest request) why e = absurd (cc (e))
+broken_why (Collects collective comm root) why e = absurd (cc (e))
+broken_why (StartsCollective request collective comm root) why e = absurd (cc (e))
+broken_why (Duplicates comm) why e = absurd (cc (e))
+broken_why (StartsDuplicate request comm) why e = absurd (cc (e))
+broken_why (Splits comm colour key) why e = absurd (cc (e))
+broken_why (Makes comm) why e = absurd (cc (e))
+broken_why (MakesOfGroup group) why e = absurd (cc (e))
+broken_why (FreesComm comm) why e = absurd (cc (e))
+broken_why Nothing why e = absurd (cc (e))
+broken_why Finalizes why e = absurd (cc (e))
+broken_why Exits why e = absurd (cc (e))
+broken_why Aborts why e = let is : Aborted ≡ why = cc (e) in subst (λ (one : Why). IsBroken one) is tt
+broken_why Fills why e = let is : Full ≡ why = cc (e) in subst (λ (one : Why). IsBroken one) is tt
+broken_why Stops why e = let is : Stopped ≡ why = cc (e) in subst (λ (one : Why). IsBroken one) is tt
+
+pub not_long : (why : Why) → IsBroken why → why ≡ TooLong → ⊥
+not_long why is long = subst (λ (one : Why). IsBroken one) long is
+
+pub not_unknown : (why : Why) → IsBroken why → why ≡ NeverCameBack → ⊥
+not_unknown why is never = subst (λ (one : Why). IsBroken one) never is
+
+pub found_stands : (handed : Handed) (progress : Progress) (line : ℕ) (it : ListCode) (why : Why) → (why ≡ TooLong → ⊥) → Stands handed progress it
     → EndsAt {A = Bool} (Err (Left why)) handed progress line (Some why) it
 found_stands handed progress line it NeverCameBack h stands = (refl, stands)
 found_stands handed progress line it NeverReported h stands = (refl, stands)
@@ -66,6 +79,7 @@ found_stands handed progress line it CannotBe h stands = (refl, stands)
 found_stands handed progress line it Stopped h stands = (refl, stands)
 found_stands handed progress line it Aborted h stands = (refl, stands)
 found_stands handed progress line it Full h stands = (refl, stands)
+found_stands handed progress line it NotJudged h stands = (refl, stands)
 found_stands handed progress line it NoJournal h stands = (refl, stands)
 found_stands handed progress line it TooLong h stands = absurd (h refl)
 
@@ -78,7 +92,7 @@ ends_entered outcome why handed progress line it e short stands =
 pub breaks_entered : (run : Run) (choice : Choice) (placed : Placed) (why : Why) (handed : Handed) (progress : Progress) (it : ListCode) → breaks_off placed.called ≡ Some why
     → Stands handed progress it → Entered (Err (Left why)) (outcome_of run choice placed) handed progress placed.line it
 breaks_entered run choice placed why handed progress it e stands =
-    ends_entered (outcome_of run choice placed) why handed progress placed.line it (broken_is run choice placed why e) (not_long placed.called why e) stands
+    ends_entered (outcome_of run choice placed) why handed progress placed.line it (broken_is run choice placed why e) (not_long why (broken_why placed.called why e)) stands
 
 -- ---- The call failed ----
 
@@ -166,6 +180,7 @@ ends_as A (Left CannotBe) handed progress line why it is = is
 ends_as A (Left Stopped) handed progress line why it is = is
 ends_as A (Left Aborted) handed progress line why it is = is
 ends_as A (Left Full) handed progress line why it is = is
+ends_as A (Left NotJudged) handed progress line why it is = is
 ends_as A (Left NoJournal) handed progress line why it is = is
 
 -- it stops where its call does

@@ -6,7 +6,7 @@ use Rattle.mpicall.specs.declared.call.Call.TheVariants.{Open}
 use Rattle.mpicall.specs.declared.call.Mode.TheVariants.{Standard}
 use Rattle.closing.specs.Called.{Sent, Awaited}
 use Rattle.closing.specs.Steps.{Own, Step, after_steps, Whole, ReceiveHalf, Does, Starts}
-use Rattle.closing.specs.Recording.{Outcome, GoesOn, Ends}
+use Rattle.closing.specs.Sinks.{Outcome, GoesOn, Ends}
 use Rattle.closing.specs.Reported.{Message as Said, done_of, is_gone, message_of, message_can_be, peer_can_be, tag_can_be}
 use Rattle.closing.specs.Endings.{sent_can_be, awaited_can_be}
 use Rattle.closing.specs.Entry.{start_send, start_receive, exchange}

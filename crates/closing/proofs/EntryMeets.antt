@@ -3,6 +3,7 @@ use Rattle.std.proofs.Common.{◌≡◌, ◌∙◌, refl, sym, ap, subst, arith,
 use Rattle.std.specs.Prelude.{IfSome, slice_get}
 use Rattle.std.specs.List.{Contains}
 use Rattle.std.proofs.lemmas.Option.{get_or_from_slice_get, slice_get_within}
+use Rattle.mpicall.specs.declared.call.Call.{Call}
 use Rattle.journals.specs.Journal.{Journal}
 use Rattle.journals.specs.Known.{has_report, report_of, requests_in}
 use Rattle.journals.specs.Lines.{Line}
@@ -15,7 +16,8 @@ use Rattle.closing.specs.Entries.{Run, Placed, entries_at, journal_at}
 use Rattle.closing.specs.Entry.{Choice, id_of, matched_message}
 use Rattle.closing.specs.Fit as fit
 use Rattle.closing.specs.Fit.{AllFit, AllSame, AreChosen, AreNumbers, EntriesFit, IsFit, NamesKnown, TestsFit, lines_before, steps_in}
-use Rattle.closing.specs.Recording.{GoesOn, Outcome, is_end, outcome_of}
+use Rattle.closing.specs.Recording.{is_end, outcome_in, outcome_of}
+use Rattle.closing.specs.Sinks.{Ends, GoesOn, Outcome}
 use Rattle.closing.specs.Steps.{Id, Own, Progress, Step, after_steps}
 use Rattle.closing.specs.Table.{Table}
 use Rattle.closing.specs.inner.Lists.{Handed, Stands}
@@ -25,6 +27,7 @@ use Rattle.closing.specs.inner.RequestReports.{AllStandFor, Tells}
 use Rattle.closing.specs.inner.SoFar.{Entered, IsAtEntry, IsEntered, IsFitEntry, StaysOn, entries_left, placed_here}
 use Rattle.closing.specs.inner.Standings.{id_in, message_for}
 use Rattle.closing.specs.inner.Table.{Grows}
+use Rattle.closing.specs.inner.Taken.{IsKept, StopsKept}
 use Rattle.closing.specs.inner.Views.{called_view}
 use Rattle.closing.specs.inner.Walked.{AreRequests, Follows, LateCall, Meets, TakesCall, TestFits, late_in, message_after}
 use Rattle.closing.specs.inner.Walks.{Spot, outcome_on, spot_of}
@@ -33,9 +36,10 @@ use Rattle.closing.specs.declared.list.List.{List as ListCode}
 use Rattle.closing.specs.declared.numbers.Communicators.{Communicators}
 use Rattle.closing.specs.declared.standing.Standing.{Standing}
 use Rattle.closing.specs.declared.stop.Stop.{Stop}
-use Rattle.closing.specs.declared.stop.Stop.TheVariants.{Memory}
+use Rattle.closing.specs.declared.stop.Stop.TheVariants.{Left, Memory}
 use Rattle.closing.specs.declared.walk.At.{At}
 use Rattle.closing.specs.declared.walk.Walk.{Walk}
+use Rattle.closing.specs.declared.why.Why.{Why}
 use Rattle.closing.proofs.AtLemmas.{entry_among, rank_within}
 use Rattle.closing.proofs.MatchedLemmas.{after_same, id_same, matched_next}
 use Rattle.closing.proofs.MeetsLemmas.{may_make, same_stand}
@@ -124,17 +128,20 @@ module _ (run : Run) (choice : Choice) (journal : Journal) (rank place : ℕ) (w
     entries_are : entries_left rank journal place ≡ placed ∷ entries_left rank journal (place + 1)
     entries_are = entries_at_call rank journal place word call
 
-    steps_fit : AllFit progress placed.line (steps_in (outcome_of run choice placed))
-    steps_fit = (subst (λ (some : List Placed). EntriesFit run choice progress some) entries_are entries).0
+    pub fits : AllFit progress placed.line (steps_in (outcome_in run choice progress.records placed))
+    fits = (subst (λ (some : List Placed). EntriesFit run choice progress some) entries_are entries).0
 
     holds : TestFits choice spot placed.called progress
     holds = test_fits run choice placed placed.called progress (subst (λ (some : List Placed). TestsFit run choice progress some) entries_are tests).0
 
     -- the list as the call takes it
     pub follows : (A : Type 0) (it : CalledCode) (result : Result A Stop) (old new : ListCode) → goes_on_past placed.called ≡ true → has_report report.Failed placed.entry ≡ false
-        → called_view it ≡ placed.called → Stands handed progress old → TakesCall {A = A} choice spot (called_view it) result old new
+        → called_view it ≡ placed.called → outcome_in run choice progress.records placed ≡ outcome_of run choice placed → Stands handed progress old
+        → TakesCall {A = A} choice spot (called_view it) result old new
         → Follows {A = A} (outcome_of run choice placed) result handed progress placed.line new
-    follows A it result old new past failed same stands takes =
+    follows A it result old new past failed same plain stands takes =
+        let steps_fit : AllFit progress placed.line (steps_in (outcome_of run choice placed)) =
+        subst (λ (one : Outcome). AllFit progress placed.line (steps_in one)) plain fits in
         let outcome : outcome_of run choice placed ≡ outcome_on choice spot placed.called = taken_is run choice placed past failed in
         let called : TakesCall {A = A} choice spot placed.called result old new = subst (λ (one : Called). TakesCall {A = A} choice spot one result old new) same takes in
         subst (λ (one : Outcome). Follows {A = A} one result handed progress placed.line new) (sym outcome)
@@ -168,20 +175,37 @@ module _ (run : Run) (choice : Choice) (journal : Journal) (rank place : ℕ) (w
 
 module _ (run : Run) (choice : Choice) (placed : Placed) (handed : Handed) (progress : Progress) (old now : Table) (place : ℕ) (walk : Walk) where
   -- the list has ended at it, or memory ran out
-  pub is_stopped : (result : Result Bool Stop) (stop : Stop) → result ≡ Err stop → Entered (Err stop) (outcome_of run choice placed) handed progress placed.line walk.list
+  pub is_stopped : (result : Result Bool Stop) (stop : Stop) → result ≡ Err stop → Entered (Err stop) (outcome_in run choice progress.records placed) handed progress placed.line walk.list
+      → ((why : Why) → stop ≡ Left why → StopsKept run choice placed (outcome_in run choice progress.records placed) why progress walk)
       → ((stop ≡ Memory → ⊥) → Grows old now) → IsEntered run choice placed result handed progress old now place walk
-  is_stopped result stop e list grows =
+  is_stopped result stop e list kept grows =
       subst (λ (r : Result Bool Stop). IsEntered run choice placed r handed progress old now place walk) (sym e) (record {
         list = list;
         on = λ steps is goes. absurd (cc (is));
+        done = λ steps end why is goes. absurd (cc (is));
+        stopped = λ why is. kept why (cc (is));
         grows = λ some. grows (λ is. some (ap (λ (one : Stop). Err one) is));
       })
 
-  pub is_done : Entered (Ok true) (outcome_of run choice placed) handed progress placed.line walk.list → Grows old now
-      → IsEntered run choice placed (Ok true) handed progress old now place walk
-  is_done list grows = record { list = list; on = λ steps is goes. absurd (cc (is)); grows = λ some. grows }
+  pub is_done : Entered (Ok true) (outcome_in run choice progress.records placed) handed progress placed.line walk.list
+      → ((steps : List Step) (end : Call) (why : Option Why) → outcome_in run choice progress.records placed ≡ Ends steps end why → IsKept (after_steps progress placed.line steps).records walk)
+      → Grows old now → IsEntered run choice placed (Ok true) handed progress old now place walk
+  is_done list kept grows = record {
+    list = list;
+    on = λ steps is goes. absurd (cc (is));
+    done = λ steps end why is goes. kept steps end why goes;
+    stopped = λ why is. absurd (cc (is));
+    grows = λ some. grows;
+  }
 
-  pub is_on : Entered (Ok false) (outcome_of run choice placed) handed progress placed.line walk.list → Grows old now
-      → ((steps : List Step) → outcome_of run choice placed ≡ GoesOn steps → StaysOn now placed.journal.lines place (after_steps progress placed.line steps).late walk)
+  pub is_on : Entered (Ok false) (outcome_in run choice progress.records placed) handed progress placed.line walk.list → Grows old now
+      → ((steps : List Step) → outcome_in run choice progress.records placed ≡ GoesOn steps
+      → StaysOn now placed.journal.lines place (after_steps progress placed.line steps).records (after_steps progress placed.line steps).late walk)
       → IsEntered run choice placed (Ok false) handed progress old now place walk
-  is_on list grows stays = record { list = list; on = λ steps is goes. stays steps goes; grows = λ some. grows }
+  is_on list grows stays = record {
+    list = list;
+    on = λ steps is goes. stays steps goes;
+    done = λ steps end why is goes. absurd (cc (is));
+    stopped = λ why is. absurd (cc (is));
+    grows = λ some. grows;
+  }

@@ -8,7 +8,7 @@ use Rattle.mpicall.specs.Limits.{in_ranges}
 use Rattle.mpicall.specs.declared.call.Call.{Call}
 use Rattle.mpicall.specs.declared.call.Call.TheVariants.{Open}
 use Rattle.closing.specs.Steps.{Id, Own, Whole, ReceiveHalf, Progress, Step, Does, Starts, number_in, after_step}
-use Rattle.closing.specs.Recording.{Outcome, GoesOn, Ends}
+use Rattle.closing.specs.Sinks.{Outcome, GoesOn, Ends}
 use Rattle.closing.specs.Reported.{peer_can_be}
 use Rattle.closing.specs.inner.Lists.{Handed, Stands, ComesTo, IsUnnamed, start_call}
 use Rattle.closing.specs.inner.Views.{message_view}

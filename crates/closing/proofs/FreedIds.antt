@@ -13,7 +13,7 @@ use Rattle.journals.specs.declared.word.Word.TheVariants.{Call}
 use Rattle.closing.specs.Called.{Called, called}
 use Rattle.closing.specs.Entry.{id_of, matched_by, matched_in, matched_message}
 use Rattle.closing.specs.Freed.{freed, freed_in, is_freed}
-use Rattle.closing.specs.Steps.{Id, Own, Whole, ReceiveHalf, same_id}
+use Rattle.closing.specs.Steps.{Id, Own, Whole, ReceiveHalf, Sink, same_id}
 use Rattle.closing.specs.inner.FreedIds.{freed_at, matched_at}
 use Rattle.closing.specs.inner.Lists.{IsUnnamed}
 use Rattle.closing.specs.inner.Standings.{id_in, message_for}
@@ -34,6 +34,7 @@ pub unnamed_kept : (lines : List Line) (id : Id) → IsUnnamed id → is_freed l
 unnamed_kept lines (Own request) unnamed = absurd unnamed
 unnamed_kept lines (Whole line) unnamed = none_among (freed lines)
 unnamed_kept lines (ReceiveHalf line) unnamed = none_among (freed lines)
+unnamed_kept lines (Sink own wanted is_known) unnamed = none_among (freed lines)
 
 -- ---- Line by line ----
 

@@ -10,7 +10,7 @@ use Rattle.std.proofs.lemmas.List.{append-nil, map-append, length-map}
 use Rattle.mpicall.specs.declared.call.Call.{Call}
 use Rattle.mpicall.specs.declared.limits.TheConstants.{GREATEST_REQUEST}
 use Rattle.mpicall.specs.Limits.{in_ranges}
-use Rattle.closing.specs.Steps.{Id, Own, Whole, ReceiveHalf, Written, Progress, plain, number_in, has_number, start, least_free}
+use Rattle.closing.specs.Steps.{Id, Own, Whole, ReceiveHalf, Sink, Written, Progress, plain, number_in, has_number, start, least_free}
 use Rattle.closing.specs.inner.Free.{Requests, AreNumbered, backwards, kept_count}
 use Rattle.closing.specs.inner.Lists.{Handed, HasIds, HasPlaces, has_id, has_place, ComesTo, IsUnnamed, IsStartOf, IsStarted, IsApart, Stands, IsCut, Puts, Cuts, Adds, KeepsRecords, TakesFree, calls_in, start_call, is_start_of_send}
 use Rattle.closing.specs.Fit.{starts_send}
@@ -22,7 +22,7 @@ use Rattle.closing.specs.declared.list.Start.TheVariants as code
 use Rattle.closing.specs.declared.list.TheConstants.{MOST_RECORDS}
 use Rattle.closing.specs.declared.stop.Stop.{Stop}
 use Rattle.closing.specs.declared.stop.Stop.TheVariants.{Left, Memory}
-use Rattle.closing.specs.declared.why.Why.TheVariants.{NeverCameBack, NeverReported, Failed, NoNumber, TooLong, CannotBe, Stopped, Aborted, Full, NoJournal}
+use Rattle.closing.specs.declared.why.Why.TheVariants.{NeverCameBack, NeverReported, Failed, NoNumber, TooLong, CannotBe, Stopped, Aborted, Full, NoJournal, NotJudged}
 use Rattle.closing.proofs.FreedPlaces.{StartNone, places_cut, places_full, places_more, places_started, plain_starts}
 
 -- ---- Records ----
@@ -61,7 +61,7 @@ line_past [] (one ∷ more) line (suc place) all from to = line_past [] more lin
 line_past (first ∷ records) more line zero all from to = absurd (omega arith)
 line_past (first ∷ records) more line (suc place) all from to = line_past records more line place all (omega arith) (omega arith)
 
-pub take_past : (n : ℕ) (xs ys : List Call) → length xs ≤ n → take n (xs ++ ys) ≡ xs ++ take (n - length xs) ys
+pub take_past : {A : Type 0} (n : ℕ) (xs ys : List A) → length xs ≤ n → take n (xs ++ ys) ≡ xs ++ take (n - length xs) ys
 take_past n [] ys le =
     let e : n ≡ n - 0 = omega arith in
     ap (λ k. take k ys) e
@@ -97,6 +97,7 @@ stop_comes A B (Left CannotBe) handed progress line old new it calls cut adds = 
 stop_comes A B (Left Stopped) handed progress line old new it calls cut adds = absurd adds
 stop_comes A B (Left Aborted) handed progress line old new it calls cut adds = absurd adds
 stop_comes A B (Left Full) handed progress line old new it calls cut adds = absurd adds
+stop_comes A B (Left NotJudged) handed progress line old new it calls cut adds = absurd adds
 stop_comes A B (Left NoJournal) handed progress line old new it calls cut adds = absurd adds
 
 -- ---- Lines that start nothing ----
@@ -234,11 +235,13 @@ unnamed_apart : (id : Id) (number : ℕ) (active : Requests) → IsUnnamed id �
 unnamed_apart (Own request) number active unnamed fresh = absurd unnamed
 unnamed_apart (Whole at) number active unnamed fresh = fresh
 unnamed_apart (ReceiveHalf at) number active unnamed fresh = fresh
+unnamed_apart (Sink own wanted is_known) number active unnamed fresh = fresh
 
 unnamed_own : (id : Id) (number : ℕ) (active : Requests) (q : ℕ) → IsUnnamed id → number_in active (Own q) ≡ number_in ((id, number) ∷ active) (Own q)
 unnamed_own (Own request) number active q unnamed = absurd unnamed
 unnamed_own (Whole at) number active q unnamed = refl
 unnamed_own (ReceiveHalf at) number active q unnamed = refl
+unnamed_own (Sink own wanted is_known) number active q unnamed = refl
 
 unnamed_stands : (handed : Handed) (progress : Progress) (line : ℕ) (old mid new : ListCode) (it : Start) (number : ℕ) (id : Id)
     → Stands handed progress old → IsUnnamed id → KeepsRecords old mid → TakesFree progress.active old mid number → Puts mid new (start_call it number ∷ []) → new.count < MOST_RECORDS

@@ -1,5 +1,5 @@
 -- The next entry of a rank is taken.
-use Rattle.std.proofs.Common.{◌≡◌, ◌∙◌, sym, ap, subst, arith, ℕ, ◌+◌, ◌≤◌, Bool, true, false, List, [], ◌∷◌, ◌++◌, length, drop, length-append, Option, Some, None, Result, Ok, Err}
+use Rattle.std.proofs.Common.{◌≡◌, ◌∙◌, refl, sym, ap, subst, arith, ℕ, ◌+◌, ◌≤◌, Bool, true, false, List, [], ◌∷◌, ◌++◌, length, drop, length-append, Option, Some, None, Result, Ok, Err}
 use Rattle.std.specs.Prelude.{OnOk}
 use Rattle.mpicall.specs.declared.call.Call.{Call}
 use Rattle.mpicall.specs.declared.call.Call.TheVariants.{Finalize, Open}
@@ -11,7 +11,7 @@ use Rattle.journals.specs.declared.word.Word.TheVariants.{Call as CallLine, Repo
 use Rattle.closing.specs.Entries.{Placed, Run, journal_at}
 use Rattle.closing.specs.Entry.{Choice}
 use Rattle.closing.specs.Fit.{IsFit}
-use Rattle.closing.specs.Recording.{outcome_of}
+use Rattle.closing.specs.Recording.{outcome_in}
 use Rattle.closing.specs.Steps.{Step, after_steps}
 use Rattle.closing.specs.Table.{Table}
 use Rattle.closing.specs.inner.Noted.{AreReports, call_if, reports_in}
@@ -26,7 +26,8 @@ use Rattle.closing.specs.declared.walk.Entry.{Entry as EntryCode}
 use Rattle.closing.specs.declared.walk.Walk.{Walk}
 use Rattle.closing.specs.declared.why.Why.{Why}
 use Rattle.closing.proofs.MoreLemmas.{entered_more}
-use Rattle.closing.proofs.NextLemmas.{broken_walk, final_walk, next_walk, opened_walk, place_after, so_far_at}
+use Rattle.closing.proofs.NextLemmas.{SameSinks, broken_walk, final_walk, next_walk, opened_walk, place_after, so_far_at}
+use Rattle.closing.proofs.UnsunkLemmas.{kept_as}
 use Rattle.closing.proofs.WalkLemmas.{left_as}
 
 -- a call line that is there
@@ -75,6 +76,8 @@ module _ (run : Run) (choice : Choice) (journal : Journal) (kept : Communicators
     pub is_ready : IsReady run choice journal so_far.handed so_far.progress begun entry
     is_ready = record {
       fit = is_fit;
+      line = line_is;
+      kept = kept_as so_far.progress.records old begun refl refl refl refl so_far.kept;
       stands = so_far.stands;
       late = so_far.late;
       entries = so_far.fit;
@@ -85,11 +88,11 @@ module _ (run : Run) (choice : Choice) (journal : Journal) (kept : Communicators
 
     -- after it
     module _ (now : Table) (result : Result Bool Stop) (one : Walk)
-        (same : one ≡ record begun { comms = one.comms; list = one.list; requests = one.requests; late = one.late; ids = one.ids; wanted = one.wanted })
+        (same : one ≡ record begun { comms = one.comms; list = one.list; requests = one.requests; late = one.late; ids = one.ids; wanted = one.wanted; sinks = one.sinks; pending = one.pending; left_out = one.left_out })
         (entered : IsEntered run choice placed result so_far.handed so_far.progress kept.keys now reports.end one) where
-      list_as : (said : Result Bool Stop) → result ≡ said → Entered said (outcome_of run choice placed) so_far.handed so_far.progress placed.line one.list
+      list_as : (said : Result Bool Stop) → result ≡ said → Entered said (outcome_in run choice so_far.progress.records placed) so_far.handed so_far.progress placed.line one.list
       list_as said e =
-          subst (λ (r : Result Bool Stop). Entered r (outcome_of run choice placed) so_far.handed so_far.progress placed.line one.list) e entered.list
+          subst (λ (r : Result Bool Stop). Entered r (outcome_in run choice so_far.progress.records placed) so_far.handed so_far.progress placed.line one.list) e entered.list
 
       grows : (said : Result Bool Stop) → result ≡ said → (said ≡ Err Memory → ⊥) → Grows kept.keys now
       grows said e some = entered.grows (λ out. some (sym e ∙ out))
@@ -111,24 +114,29 @@ module _ (run : Run) (choice : Choice) (journal : Journal) (kept : Communicators
         grows (Ok false) e (λ out. cc (out)),
       )
         where
-          stays : (steps : List Step) → StaysOn now journal.lines reports.end (after_steps so_far.progress placed.line steps).late one
-              → StaysOn now journal.lines (place_after journal.lines old.next) (after_steps so_far.progress placed.line steps).late one
-          stays steps stay = subst (λ (n : ℕ). StaysOn now journal.lines n (after_steps so_far.progress placed.line steps).late one) are.end stay
+          stays : (steps : List Step) → StaysOn now journal.lines reports.end (after_steps so_far.progress placed.line steps).records (after_steps so_far.progress placed.line steps).late one
+              → StaysOn now journal.lines (place_after journal.lines old.next) (after_steps so_far.progress placed.line steps).records (after_steps so_far.progress placed.line steps).late one
+          stays steps stay = subst (λ (n : ℕ). StaysOn now journal.lines n (after_steps so_far.progress placed.line steps).records (after_steps so_far.progress placed.line steps).late one) are.end stay
 
       -- it ends with the rank's calls
       pub step_ends : (new : Walk) → result ≡ Ok true → new ≡ record one { list = new.list; is_over = true }
           → new.list.records.items ≡ one.list.records.items ++ Finalize ∷ [] → new.list.freed ≡ one.list.freed → IsWalk run choice now new × Grows kept.keys now
       step_ends new e ended items freed = (
-        final_walk run choice journal kept.keys old so_far there word call now one.list new (list_as (Ok true) e) (record {
-          rank = ap (λ (it : Walk). it.rank) ended ∙ ap (λ (it : Walk). it.rank) same;
-          handed = ap (λ (it : Walk). it.handed) ended ∙ ap (λ (it : Walk). it.handed) same;
-          before = ap (λ (it : Walk). it.before) ended ∙ ap (λ (it : Walk). it.before) same ∙ before_is;
-          line_is = ap (λ (it : Walk). it.line) ended ∙ ap (λ (it : Walk). it.line) same ∙ line_is;
-          items_are = items;
-          freed = freed;
-          left = ap (λ (it : Walk). it.left) ended ∙ ap (λ (it : Walk). it.left) same ∙ so_far.left;
-          over = ap (λ (it : Walk). it.is_over) ended;
-        }),
+        final_walk run choice journal kept.keys old so_far there word call now one new (list_as (Ok true) e) (λ steps end why is. entered.done steps end why e is)
+            (ap (λ (it : Walk). it.rank) same) (record {
+              sinks = ap (λ (it : Walk). it.sinks) ended;
+              pending = ap (λ (it : Walk). it.pending) ended;
+              left_out = ap (λ (it : Walk). it.left_out) ended;
+            }) (record {
+              rank = ap (λ (it : Walk). it.rank) ended ∙ ap (λ (it : Walk). it.rank) same;
+              handed = ap (λ (it : Walk). it.handed) ended ∙ ap (λ (it : Walk). it.handed) same;
+              before = ap (λ (it : Walk). it.before) ended ∙ ap (λ (it : Walk). it.before) same ∙ before_is;
+              line_is = ap (λ (it : Walk). it.line) ended ∙ ap (λ (it : Walk). it.line) same ∙ line_is;
+              items_are = items;
+              freed = freed;
+              left = ap (λ (it : Walk). it.left) ended ∙ ap (λ (it : Walk). it.left) same ∙ so_far.left;
+              over = ap (λ (it : Walk). it.is_over) ended;
+            }),
         grows (Ok true) e (λ out. cc (out)),
       )
 
@@ -137,30 +145,35 @@ module _ (run : Run) (choice : Choice) (journal : Journal) (kept : Communicators
           → new.list.records.items ≡ one.list.records.items ++ Open ∷ [] → new.list.freed ≡ one.list.freed → IsWalk run choice now new × Grows kept.keys now
       step_leaves new why e ended items freed =
           let at : one.line ≡ old.next + 2 = ap (λ (it : Walk). it.line) same ∙ line_is in (
-            broken_walk run choice journal kept.keys old so_far there word call now one.list why new (list_as (Err (Left why)) e) (record {
-              rank = ap (λ (it : Walk). it.rank) ended ∙ ap (λ (it : Walk). it.rank) same;
-              handed = ap (λ (it : Walk). it.handed) ended ∙ ap (λ (it : Walk). it.handed) same;
-              before = ap (λ (it : Walk). it.before) ended ∙ ap (λ (it : Walk). it.before) same ∙ before_is;
-              line_is = ap (λ (it : Walk). it.line) ended ∙ at;
-              items_are = items;
-              freed = freed;
-              left = ap (λ (it : Walk). it.left) ended ∙ ap (λ (n : ℕ). left_as n (Some why)) at;
-              over = ap (λ (it : Walk). it.is_over) ended;
-            }),
+            broken_walk run choice journal kept.keys old so_far there word call now one why new (list_as (Err (Left why)) e) (entered.stopped why e)
+                (ap (λ (it : Walk). it.rank) same) (record {
+                  sinks = ap (λ (it : Walk). it.sinks) ended;
+                  pending = ap (λ (it : Walk). it.pending) ended;
+                  left_out = ap (λ (it : Walk). it.left_out) ended;
+                }) (record {
+                  rank = ap (λ (it : Walk). it.rank) ended ∙ ap (λ (it : Walk). it.rank) same;
+                  handed = ap (λ (it : Walk). it.handed) ended ∙ ap (λ (it : Walk). it.handed) same;
+                  before = ap (λ (it : Walk). it.before) ended ∙ ap (λ (it : Walk). it.before) same ∙ before_is;
+                  line_is = ap (λ (it : Walk). it.line) ended ∙ at;
+                  items_are = items;
+                  freed = freed;
+                  left = ap (λ (it : Walk). it.left) ended ∙ ap (λ (n : ℕ). left_as n (Some why)) at;
+                  over = ap (λ (it : Walk). it.is_over) ended;
+                }),
             grows (Err (Left why)) e (λ out. cc (out)),
           )
 
       -- no record is taken away
       pub step_more : (said : Result Bool Stop) → result ≡ said → (said ≡ Err Memory → ⊥) → length old.list.records.items ≤ length one.list.records.items
       step_more said e some =
-          entered_more so_far.handed so_far.progress old.list one.list so_far.stands said (outcome_of run choice placed) placed.line some (list_as said e)
+          entered_more so_far.handed so_far.progress old.list one.list so_far.stands said (outcome_in run choice so_far.progress.records placed) placed.line some (list_as said e)
 
   -- ---- No entry is left ----
 
   pub step_opens : (new : Walk) → ((word : CallWord) → word_at journal.lines old.next ≡ Some (CallLine word) → ⊥)
       → new.rank ≡ old.rank → new.handed ≡ old.handed → new.before ≡ old.handed + length old.list.records.items → new.line ≡ 0 → new.left ≡ old.left → new.is_over ≡ true
-      → new.list.records.items ≡ old.list.records.items ++ Open ∷ [] → new.list.freed ≡ old.list.freed → IsWalk run choice kept.keys new
-  step_opens new none rank handed before line left over items freed =
+      → new.list.records.items ≡ old.list.records.items ++ Open ∷ [] → new.list.freed ≡ old.list.freed → SameSinks old new → IsWalk run choice kept.keys new
+  step_opens new none rank handed before line left over items freed same =
       opened_walk run choice journal kept.keys old so_far there new none (record {
         rank = rank;
         handed = handed;
@@ -170,7 +183,7 @@ module _ (run : Run) (choice : Choice) (journal : Journal) (kept : Communicators
         freed = freed;
         left = left ∙ so_far.left;
         over = over;
-      })
+      }) same
 
 pub one_more_than : (old one new : List Call) (x : Call) → length old ≤ length one → new ≡ one ++ x ∷ [] → length old ≤ length new
 one_more_than old one new x h e = omega (arith, h, one_more one new x e)

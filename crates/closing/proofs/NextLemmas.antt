@@ -10,21 +10,24 @@ use Rattle.journals.specs.Taking.{word_at}
 use Rattle.journals.specs.declared.word.CallWord.{CallWord}
 use Rattle.journals.specs.declared.word.Word.{Word}
 use Rattle.journals.specs.declared.word.Word.TheVariants.{Call as CallLine, Report}
-use Rattle.closing.specs.Entries.{Run, journal_at, lines_at, lines_in}
+use Rattle.closing.specs.Entries.{Placed, Run, journal_at, lines_at, lines_in}
 use Rattle.closing.specs.Entry.{Choice}
 use Rattle.closing.specs.Freed.{is_freed}
-use Rattle.closing.specs.Recording.{Listed, GoesOn, cut, list_of, most_records, outcome_of, whole_list}
+use Rattle.closing.specs.Recording.{Listed, cut, list_of, most_records, outcome_in, whole_list}
+use Rattle.closing.specs.Sinks.{Ends, GoesOn}
 use Rattle.closing.specs.Steps.{Id, Step, Written, after_steps}
 use Rattle.closing.specs.Table.{Table}
 use Rattle.closing.specs.inner.Holds.{HasComms}
 use Rattle.closing.specs.inner.Lists.{HasPlaces}
 use Rattle.closing.specs.inner.Noted.{reports_in}
 use Rattle.closing.specs.inner.SoFar.{Entered, IsOn, IsPart, IsSoFar, IsWalk, StaysOn, comms_at, placed_here}
+use Rattle.closing.specs.inner.Taken.{IsKept, IsKnown, StopsKept}
 use Rattle.closing.specs.declared.freed.Freed.{Freed}
 use Rattle.closing.specs.declared.list.List.{List as ListCode}
 use Rattle.closing.specs.declared.stop.Stop.TheVariants.{Left}
 use Rattle.closing.specs.declared.walk.Walk.{Walk}
 use Rattle.closing.specs.declared.why.Why.{Why}
+use Rattle.closing.proofs.EndedWalks.{broken_known, final_known, known_as, opened_known}
 use Rattle.closing.proofs.LastLemmas.{drop_none}
 use Rattle.closing.proofs.LineLemmas.{IsEnded}
 use Rattle.closing.proofs.PlacedLemmas.{no_report_there}
@@ -49,6 +52,12 @@ none_left lines n e = by_line (slice_get lines n) refl
     by_line : (it : Option Line) → slice_get lines n ≡ it → drop n lines ≡ []
     by_line None at = drop_none lines n at
     by_line (Some line) at = let some = rw at at e in absurd (cc (some))
+
+-- it has the same sinks
+pub record SameSinks (old new : Walk) : Type 0 where
+  pub sinks : new.sinks ≡ old.sinks
+  pub pending : new.pending ≡ old.pending
+  pub left_out : new.left_out ≡ old.left_out
 
 -- what is known of a list that has ended
 pub record HasEnded (old : Walk) (line : ℕ) (list : ListCode) (end : Call) (why : Option Why) (new : Walk) : Type 0 where
@@ -89,8 +98,8 @@ module _ (run : Run) (choice : Choice) (journal : Journal) (table : Table) (old 
   count_small = omega (arith, count_is, so_far.stands.count, so_far.stands.short)
 
   ended_walk : (now : Table) (line : ℕ) (list : ListCode) (end : Call) (why : Option Why) (new : Walk) → HasEnded old line list end why new
-      → IsEnded (cut (whole_list run choice old.rank)) so_far.handed list end (old.handed + length old.list.records.items) line why → IsWalk run choice now new
-  ended_walk now line list end why new is ended =
+      → IsEnded (cut (whole_list run choice old.rank)) so_far.handed list end (old.handed + length old.list.records.items) line why → IsKnown run choice new → IsWalk run choice now new
+  ended_walk now line list end why new is ended known =
       let here : IsEnded (cut (whole_list run choice old.rank)) so_far.handed list end new.before new.line why = rw (is.before, is.line_is) ended in
       let left : new.left ≡ left_as new.line why = is.left ∙ ap (λ n. left_as n why) (sym is.line_is) in
       let part = part_of_ended run choice old.rank journal so_far.handed list end why new there here is.items_are (so_far.count ∙ sym is.handed) left in
@@ -98,6 +107,7 @@ module _ (run : Run) (choice : Choice) (journal : Journal) (table : Table) (old 
         part = subst (λ (rank : ℕ). IsPart (list_of run choice rank) new) (sym is.rank) part;
         on = λ goes. absurd (true_false new.is_over is.over goes);
         freed = λ over. subst (λ (rank : ℕ). HasPlaces (is_freed (lines_at run rank)) (list_of run choice rank).records new.list.freed) (sym is.rank) places;
+        known = λ over. known;
       }
     where
       listed : (cut (whole_list run choice old.rank)).records ≡ (list_of run choice old.rank).records
@@ -114,8 +124,11 @@ module _ (run : Run) (choice : Choice) (journal : Journal) (table : Table) (old 
 
   -- where no call line is left it ends open
   pub opened_walk : (new : Walk) → ((word : CallWord) → word_at journal.lines old.next ≡ Some (CallLine word) → ⊥) → HasEnded old 0 old.list Open None new
-      → IsWalk run choice table new
-  opened_walk new none is = ended_walk table 0 old.list Open None new is ended
+      → SameSinks old new → IsWalk run choice table new
+  opened_walk new none is same =
+      ended_walk table 0 old.list Open None new is ended
+      (known_as run choice old new is.rank same.sinks same.pending same.left_out
+      (opened_known run choice journal table old so_far there (none_left journal.lines old.next (no_word (word_at journal.lines old.next) refl))))
     where
       no_word : (it : Option Word) → word_at journal.lines old.next ≡ it → word_at journal.lines old.next ≡ None
       no_word None at = at
@@ -133,31 +146,42 @@ module _ (run : Run) (choice : Choice) (journal : Journal) (table : Table) (old 
     abbrev before : ℕ
     before = old.handed + length old.list.records.items
 
+    abbrev placed : Placed
+    placed = placed_here old.rank journal old.next word
+
     -- the rank's last call
-    pub final_walk : (now : Table) (list : ListCode) (new : Walk) → Entered (Ok true) (outcome_of run choice (placed_here old.rank journal old.next word)) so_far.handed so_far.progress (old.next + 2) list
-        → HasEnded old (old.next + 2) list Finalize None new → IsWalk run choice now new
-    final_walk now list new entered is =
-        ended_walk now (old.next + 2) list Finalize None new is
-        (entry_ends run choice journal table now old new word so_far call before list (omega (arith, count_is)) entered)
+    pub final_walk : (now : Table) (one new : Walk) → Entered (Ok true) (outcome_in run choice so_far.progress.records (placed_here old.rank journal old.next word)) so_far.handed so_far.progress (old.next + 2) one.list
+        → ((steps : List Step) (end : Call) (why : Option Why) → outcome_in run choice so_far.progress.records (placed_here old.rank journal old.next word) ≡ Ends steps end why
+        → IsKept (after_steps so_far.progress (old.next + 2) steps).records one)
+        → one.rank ≡ old.rank → SameSinks one new → HasEnded old (old.next + 2) one.list Finalize None new → IsWalk run choice now new
+    final_walk now one new entered kept rank same is =
+        ended_walk now (old.next + 2) one.list Finalize None new is
+        (entry_ends run choice journal table now old new word so_far call before one.list (omega (arith, count_is)) entered)
+        (known_as run choice one new (is.rank ∙ sym rank) same.sinks same.pending same.left_out
+        (final_known run choice journal table old so_far there word call one rank entered kept))
 
     -- one at which the list is left
-    pub broken_walk : (now : Table) (list : ListCode) (why : Why) (new : Walk)
-        → Entered (Err (Left why)) (outcome_of run choice (placed_here old.rank journal old.next word)) so_far.handed so_far.progress (old.next + 2) list
-        → HasEnded old (old.next + 2) list Open (Some why) new → IsWalk run choice now new
-    broken_walk now list why new entered is =
-        ended_walk now (old.next + 2) list Open (Some why) new is
-        (entry_leaves run choice journal table now old new word so_far call before list why (omega (arith, count_is)) entered)
+    pub broken_walk : (now : Table) (one : Walk) (why : Why) (new : Walk)
+        → Entered (Err (Left why)) (outcome_in run choice so_far.progress.records (placed_here old.rank journal old.next word)) so_far.handed so_far.progress (old.next + 2) one.list
+        → StopsKept run choice (placed_here old.rank journal old.next word) (outcome_in run choice so_far.progress.records (placed_here old.rank journal old.next word)) why so_far.progress one
+        → one.rank ≡ old.rank → SameSinks one new → HasEnded old (old.next + 2) one.list Open (Some why) new → IsWalk run choice now new
+    broken_walk now one why new entered kept rank same is =
+        ended_walk now (old.next + 2) one.list Open (Some why) new is
+        (entry_leaves run choice journal table now old new word so_far call before one.list why (omega (arith, count_is)) entered)
+        (known_as run choice one new (is.rank ∙ sym rank) same.sinks same.pending same.left_out
+        (broken_known run choice journal table old so_far there word call one rank why entered kept))
 
-    pub next_walk : (now : Table) (new : Walk) → Entered (Ok false) (outcome_of run choice (placed_here old.rank journal old.next word)) so_far.handed so_far.progress (old.next + 2) new.list
-        → ((steps : List Step) → outcome_of run choice (placed_here old.rank journal old.next word) ≡ GoesOn steps
-        → StaysOn now journal.lines (place_after journal.lines old.next) (after_steps so_far.progress (old.next + 2) steps).late new) → HasNext journal.lines old new → IsWalk run choice now new
+    pub next_walk : (now : Table) (new : Walk) → Entered (Ok false) (outcome_in run choice so_far.progress.records (placed_here old.rank journal old.next word)) so_far.handed so_far.progress (old.next + 2) new.list
+        → ((steps : List Step) → outcome_in run choice so_far.progress.records (placed_here old.rank journal old.next word) ≡ GoesOn steps
+        → StaysOn now journal.lines (place_after journal.lines old.next) (after_steps so_far.progress (old.next + 2) steps).records (after_steps so_far.progress (old.next + 2) steps).late new) → HasNext journal.lines old new → IsWalk run choice now new
     next_walk now new entered stays is = record {
       part = part_of_on run choice now new on is.goes;
       on = λ goes. on;
       freed = λ over. absurd (true_false new.is_over over is.goes);
+      known = λ over. absurd (true_false new.is_over over is.goes);
     }
       where
-        is_next : (steps : List Step) → StaysOn now journal.lines (place_after journal.lines old.next) (after_steps so_far.progress (old.next + 2) steps).late new
+        is_next : (steps : List Step) → StaysOn now journal.lines (place_after journal.lines old.next) (after_steps so_far.progress (old.next + 2) steps).records (after_steps so_far.progress (old.next + 2) steps).late new
             → IsNext run choice journal table now old new word so_far call (old.next + 2) before steps
         is_next steps stay = record {
           rank = is.rank;
@@ -169,6 +193,7 @@ module _ (run : Run) (choice : Choice) (journal : Journal) (table : Table) (old 
           last = is.last;
           outcomes = is.outcomes;
           late = stay.late_is;
+          kept = stay.kept;
           comms = subst (λ (rank : ℕ). HasComms now new.comms (comms_at rank journal.lines (place_after journal.lines old.next))) is.rank stay.comms;
           requests = stay.requests;
         }

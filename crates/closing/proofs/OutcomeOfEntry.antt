@@ -17,7 +17,8 @@ use Rattle.closing.specs.Steps.{Step, WaitsForLate}
 use Rattle.mpicall.specs.declared.call.Mode.TheVariants.{Standard}
 use Rattle.closing.specs.Endings.{breaks_off, first_of, why_at, number_at, sent_can_be, size_at}
 use Rattle.closing.specs.Entry.{wait_for_all, wait_for_any, Choice, steps_by, steps_of, unless_past, is_past, start_send, start_receive}
-use Rattle.closing.specs.Recording.{Outcome, GoesOn, Ends, is_end, steps_before, outcome_by, outcome_of}
+use Rattle.closing.specs.Recording.{is_end, steps_before, outcome_by, outcome_of}
+use Rattle.closing.specs.Sinks.{Outcome, GoesOn, Ends}
 use Rattle.closing.specs.inner.Walks.{Spot, spot_of, ends, numbered, known_or_ends, receives_after, starts_at, chosen_or_ends, outcome_on}
 use Rattle.closing.specs.declared.why.Why.{Why}
 use Rattle.closing.specs.declared.why.Why.TheVariants.{NeverCameBack, NeverReported, Failed, NoNumber, CannotBe}

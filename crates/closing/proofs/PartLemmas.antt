@@ -19,6 +19,7 @@ shortened it = record {
   end = Open;
   line = line_of (slice_get it.records (most_records - 1));
   why = Some TooLong;
+  active = it.active;
 }
 
 -- one that isn't too long stays

@@ -1,5 +1,5 @@
 -- Calls that neither count among those on a communicator nor make one.
-use Rattle.std.proofs.Common.{◌≡◌, ap, refl, subst, sym, Bool, true, false, Option, Some, None, List, [], ◌∷◌, ℕ}
+use Rattle.std.proofs.Common.{◌≡◌, refl, subst, sym, true, false, None, List, [], ◌∷◌}
 use Rattle.mpicall.specs.declared.call.Mode.{Mode}
 use Rattle.journals.specs.declared.field.Field.{Field}
 use Rattle.journals.specs.declared.field.Field.TheVariants.{Natural, Signed, Null, Any, Undefined}

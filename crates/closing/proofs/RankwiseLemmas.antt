@@ -1,6 +1,6 @@
 -- What callers see of a recording, by what it keeps of a rank.
 use Rattle.std.proofs.Common.{◌≡◌, ◌∙◌, refl, sym, ap, subst, arith, ℕ, zero, suc, ◌+◌, ◌-◌, ◌<◌, ◌≤◌, Bool, true, false, List, [], ◌∷◌, ◌++◌, length, map, take, drop, append_assoc, length-append, get_or, ◌==◌, ne_eqb, inl, inr, ◌⊎◌, Option, Some, None, option_map}
-use Rattle.std.specs.Prelude.{slice_get, unwrap_or, zip, if◌then◌else◌}
+use Rattle.std.specs.Prelude.{flat_map, slice_get, unwrap_or, zip, if◌then◌else◌}
 use Rattle.std.specs.Option.{option_map_or}
 use Rattle.std.proofs.lemmas.Option.{slice_get-map, slice_get_past, slice_get_read, slice_get_within}
 use Rattle.std.proofs.lemmas.Bool.{cases_lt, eqb-true}
@@ -12,12 +12,15 @@ use Rattle.closing.specs.Entries.{journal_at, lines_at, lines_in}
 use Rattle.closing.specs.Fit.{IsFit}
 use Rattle.closing.specs.Freed.{is_freed, starts_freed, starts_one_of}
 use Rattle.closing.specs.Journals.{journal_in, run_in}
+use Rattle.closing.specs.Left.{left_by as left_told, left_said}
+use Rattle.closing.specs.Pending.{pending_of, sinks_of, pending_said}
 use Rattle.closing.specs.Recording.{Listed, calls_of, list_of}
 use Rattle.closing.specs.Recordings.{HasRanks, IsPartMade, RecordingView, calls_at, calls_waiting, choice_in, count_at, left_in, line_at, list_at}
 use Rattle.closing.specs.Steps.{Id, Written}
 use Rattle.closing.specs.inner.Lists.{HasPlaces, has_place}
 use Rattle.closing.specs.inner.Rankwise.{IsRecording, made_by, left_by, recording_view}
 use Rattle.closing.specs.inner.SoFar.{IsPart}
+use Rattle.closing.specs.inner.Taken.{IsKnown}
 use Rattle.closing.specs.declared.choice.Choice.{Choice as ChoiceMade}
 use Rattle.closing.specs.declared.numbers.Communicators.{Communicators}
 use Rattle.closing.specs.declared.walk.Walk.{Walk}
@@ -259,6 +262,30 @@ module _ (ranks : ℕ) (journals : List (Option JournalRead)) (choice : ChoiceMa
       let over : walk.is_over ≡ true = left_at_walk rank walk at ∙ ap (λ n. n == 0) (none within) in
       let one = is.have.are fit rank walk at in
       subst (λ (n : ℕ). HasPlaces (is_freed (lines_at seen.run n)) (list_of seen.run seen.choice n).records walk.list.freed) one.rank_is (one.is.freed over) place
+
+  -- what is known of a list that has ended
+  known_of_walk : (rank : ℕ) (walk : Walk) → slice_get walks rank ≡ Some walk → IsFit seen.run seen.choice → count_at seen.left rank ≡ 0
+      → (walk.rank ≡ rank) × IsKnown seen.run seen.choice walk
+  known_of_walk rank walk at fit none =
+      let over : walk.is_over ≡ true = left_at_walk rank walk at ∙ ap (λ n. n == 0) none in
+      let one = is.have.are fit rank walk at in
+      (one.rank_is, one.is.known over)
+
+  pub sinks_of_walk : (rank : ℕ) (walk : Walk) → slice_get walks rank ≡ Some walk → IsFit seen.run seen.choice → count_at seen.left rank ≡ 0
+      → walk.sinks.all.items ≡ sinks_of (list_at seen rank)
+  sinks_of_walk rank walk at fit none =
+      let known = known_of_walk rank walk at fit none in known.1.sinks ∙ ap (λ (n : ℕ). sinks_of (list_at seen n)) known.0
+
+  pub pending_of_walk : (rank : ℕ) (walk : Walk) → slice_get walks rank ≡ Some walk → IsFit seen.run seen.choice → count_at seen.left rank ≡ 0
+      → pending_said walk.pending ≡ pending_of seen.run seen.choice rank
+  pending_of_walk rank walk at fit none =
+      let known = known_of_walk rank walk at fit none in known.1.pending ∙ ap (λ (n : ℕ). pending_of seen.run seen.choice n) known.0
+
+  pub left_out_of_walk : (rank : ℕ) (walk : Walk) → slice_get walks rank ≡ Some walk → IsFit seen.run seen.choice → count_at seen.left rank ≡ 0
+      → map (left_said rank) walk.left_out.items ≡ flat_map (left_told rank (list_at seen rank)) (list_at seen rank).records
+  left_out_of_walk rank walk at fit none =
+      let known = known_of_walk rank walk at fit none in
+      subst (λ (n : ℕ). map (left_said n) walk.left_out.items ≡ flat_map (left_told n (list_at seen n)) (list_at seen n).records) known.0 known.1.left_out
 
   -- without a list there is no line either
   pub freed_of_none : (rank place : ℕ) → slice_get walks rank ≡ None → false ≡ starts_freed seen.run rank (list_at seen rank) place

@@ -34,6 +34,8 @@ use Rattle.closing.specs.declared.freed.Freed.{Freed}
 use Rattle.closing.specs.declared.list.List.{List as ListCode}
 use Rattle.closing.specs.declared.numbers.Communicators.{Communicators}
 use Rattle.closing.specs.declared.walk.Walk.{Walk}
+use Rattle.closing.proofs.EndedWalks.{known_as}
+use Rattle.closing.proofs.UnsunkLemmas.{kept_as}
 use Rattle.closing.proofs.ChangedLemmas.{changes_none, changes_only, made_few, map_stays, still_recorded}
 use Rattle.closing.proofs.HoldsLemmas.{comms_grow}
 use Rattle.closing.proofs.KeptLemmas.{run_grows}
@@ -46,7 +48,7 @@ use Rattle.closing.proofs.RankwiseLemmas.{count_of_none, count_of_walk, forgotte
 
 -- what is known of a list stays so
 pub walk_grows : (run : Run) (choice : Choice) (old new : Table) (walk : Walk) → Grows old new → IsWalk run choice old walk → IsWalk run choice new walk
-walk_grows run choice old new walk grows is = record { part = is.part; on = λ goes. on_grows (is.on goes); freed = is.freed }
+walk_grows run choice old new walk grows is = record { part = is.part; on = λ goes. on_grows (is.on goes); freed = is.freed; known = is.known }
   where
     on_grows : IsOn run choice old walk → IsOn run choice new walk
     on_grows on = record {
@@ -59,6 +61,8 @@ walk_grows run choice old new walk grows is = record { part = is.part; on = λ g
         frees = on.so_far.frees;
         stands = on.so_far.stands;
         late = on.so_far.late;
+        kept = on.so_far.kept;
+        earlier = on.so_far.earlier;
         list = on.so_far.list;
         fit = on.so_far.fit;
         tests = on.so_far.tests;
@@ -97,6 +101,7 @@ forgotten_walk run choice table old list handed is none count stands freed = rec
   on = λ goes. still_on (is.on goes);
   freed = λ over.
       subst (λ (it : Freed). HasPlaces (is_freed (lines_at run old.rank)) (list_of run choice old.rank).records it) (sym freed) (is.freed over);
+  known = λ over. known_as run choice old (record old { list = list; handed = handed }) refl refl refl refl (is.known over);
 }
   where
     still_on : IsOn run choice table old → IsOn run choice table (record old { list = list; handed = handed })
@@ -110,6 +115,8 @@ forgotten_walk run choice table old list handed is none count stands freed = rec
         count = length-append on.so_far.handed.calls old.list.records.items ∙ ap (λ n. n + length old.list.records.items) on.so_far.count ∙ sym count;
         stands = stands on.so_far.handed on.so_far.progress on.so_far.stands;
         late = on.so_far.late;
+        kept = kept_as on.so_far.progress.records old (record old { list = list; handed = handed }) refl refl refl refl on.so_far.kept;
+        earlier = on.so_far.earlier;
         list = on.so_far.list;
         fit = on.so_far.fit;
         tests = on.so_far.tests;

@@ -5,7 +5,7 @@ use Rattle.std.specs.List.{list_any}
 use Rattle.std.specs.HashMap.{get}
 use Rattle.std.proofs.lemmas.Bool.{cases_eq, cases_Bool, cond-true, cond-false, eq-eqb, eqb-true, ne_eqb, and_right, or_parts, or_left, or_right, both_ways}
 use Rattle.std.proofs.lemmas.List.{append-nil}
-use Rattle.closing.specs.Steps.{Id, Own, Whole, ReceiveHalf, Written, same_id, number_in, without, without_all, put_number, numbers_of, has_number}
+use Rattle.closing.specs.Steps.{Id, Own, Whole, ReceiveHalf, Sink, Written, same_id, number_in, without, without_all, put_number, numbers_of, has_number}
 use Rattle.closing.specs.inner.Free.{Requests}
 use Rattle.closing.specs.inner.Lists.{IsApart, AreApart, AreHeld, IsStarted, KeepsLines, Owns, TakesOne, found_number}
 use Rattle.closing.specs.declared.list.List.{List as ListCode}
@@ -64,11 +64,13 @@ apart_fresh : (one : Id × ℕ) (others : Requests) → IsApart one others → h
 apart_fresh (Own id, number) others apart = apart.1
 apart_fresh (Whole line, number) others apart = apart
 apart_fresh (ReceiveHalf line, number) others apart = apart
+apart_fresh (Sink own wanted is_known, number) others apart = apart
 
 one_apart : (one : Id × ℕ) (others : Requests) (number : ℕ) → IsApart one others → IsApart one (without number others)
 one_apart (Own id, found) others number apart = (none_without others (Own id) number apart.0, fresh_without others number found apart.1)
 one_apart (Whole line, found) others number apart = fresh_without others number found apart
 one_apart (ReceiveHalf line, found) others number apart = fresh_without others number found apart
+one_apart (Sink own wanted is_known, found) others number apart = fresh_without others number found apart
 
 pub without_apart : (active : Requests) (number : ℕ) → AreApart active → AreApart (without number active)
 without_apart [] number apart = tt
@@ -82,6 +84,7 @@ same_own : (other : Id) (id : ℕ) → same_id other (Own id) ≡ true → other
 same_own (Own other) id same = ap Own (eqb-true other id same)
 same_own (Whole line) id same = cc
 same_own (ReceiveHalf line) id same = cc
+same_own (Sink own wanted is_known) id same = cc
 
 -- the first isn't the request with the number: its own number is another
 other_number : (one : Id × ℕ) (others : Requests) (id : Id) (number : ℕ) → IsApart one others → number_in others id ≡ Some number → one.1 ≡ number → ⊥

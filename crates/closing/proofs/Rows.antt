@@ -17,16 +17,17 @@ use Rattle.closing.specs.Recording.{Recording, calls_of, recording_of}
 use Rattle.closing.specs.Left.{Left, left_of}
 use Rattle.closing.specs.declared.choice.Calls.TheVariants as calls
 use Rattle.closing.specs.declared.choice.Tests.TheVariants as tests
+use Rattle.closing.specs.declared.choice.Unreported.TheVariants as unreported
 use Rattle.closing.specs.declared.why.Why.TheVariants.{NeverCameBack, NeverReported, Failed, CannotBe, NoJournal}
 
 abbrev strict : Choice
-strict = record { tests = tests.Wait; calls = calls.Strict }
+strict = record { tests = tests.Wait; calls = calls.Strict; unreported = unreported.Ends }
 
 abbrev passing : Choice
-passing = record { tests = tests.Pass; calls = calls.Strict }
+passing = record { tests = tests.Pass; calls = calls.Strict; unreported = unreported.Ends }
 
 abbrev as_it_went : Choice
-as_it_went = record { tests = tests.Wait; calls = calls.Went }
+as_it_went = record { tests = tests.Wait; calls = calls.Went; unreported = unreported.Ends }
 
 -- the groups, the calls of each list, and why lists end before their ends
 record Shown : Type 0 where

@@ -3,7 +3,7 @@ use Rattle.std.proofs.Common.{◌≡◌, refl, sym, ◌∙◌, ap, subst, ℕ, z
 use Rattle.std.specs.Prelude.{option_map, slice_get}
 use Rattle.std.proofs.lemmas.List.{map-append, take-append-le, length-map}
 use Rattle.closing.specs.Steps.{Written, Progress, Step, after_step, after_steps}
-use Rattle.closing.specs.Recording.{GoesOn}
+use Rattle.closing.specs.Sinks.{GoesOn}
 use Rattle.closing.specs.inner.Lists.{Handed, HasPlaces, IsCut, ComesTo, calls_in}
 use Rattle.closing.specs.inner.Walks.{Spot}
 use Rattle.closing.specs.Fit.{AllFit}
@@ -14,7 +14,7 @@ use Rattle.closing.specs.declared.list.TheConstants.{MOST_RECORDS}
 use Rattle.closing.specs.declared.stop.Stop.{Stop}
 use Rattle.closing.specs.declared.stop.Stop.TheVariants.{Left, Memory}
 use Rattle.closing.specs.declared.why.Why.{Why}
-use Rattle.closing.specs.declared.why.Why.TheVariants.{TooLong, NeverCameBack, NeverReported, Failed, NoNumber, CannotBe, Stopped, Aborted, Full, NoJournal}
+use Rattle.closing.specs.declared.why.Why.TheVariants.{TooLong, NeverCameBack, NeverReported, Failed, NoNumber, CannotBe, Stopped, Aborted, Full, NoJournal, NotJudged}
 
 -- ---- A list that is too long stays so ----
 
@@ -72,6 +72,7 @@ still_cut A B (Left CannotBe) handed p q line it grown cut = cut
 still_cut A B (Left Stopped) handed p q line it grown cut = cut
 still_cut A B (Left Aborted) handed p q line it grown cut = cut
 still_cut A B (Left Full) handed p q line it grown cut = cut
+still_cut A B (Left NotJudged) handed p q line it grown cut = cut
 still_cut A B (Left NoJournal) handed p q line it grown cut = cut
 
 pub cut_before : (A B : Type 0) (spot : Spot) (xs ys : List Step) (stop : Stop) (old new : ListCode)
@@ -94,4 +95,5 @@ ends_cut A B (Left CannotBe) handed p line why it cut = absurd cut
 ends_cut A B (Left Stopped) handed p line why it cut = absurd cut
 ends_cut A B (Left Aborted) handed p line why it cut = absurd cut
 ends_cut A B (Left Full) handed p line why it cut = absurd cut
+ends_cut A B (Left NotJudged) handed p line why it cut = absurd cut
 ends_cut A B (Left NoJournal) handed p line why it cut = absurd cut

@@ -12,7 +12,7 @@ use Rattle.closing.specs.Reported.{Message as Said, done_of, is_gone, is_settled
 use Rattle.closing.specs.Steps.{Id, Own, Whole, ReceiveHalf, Step, Does, Starts, WaitsForAll, WaitsForOne, PutsOff, WaitsForLate}
 use Rattle.closing.specs.Endings.{awaited_can_be, sent_can_be}
 use Rattle.closing.specs.Entry.{Choice, exchange, ids_of, kind_of, probe, receive, send, start_collective, start_receive, start_send, unless_past, wait_for_all, wait_for_one}
-use Rattle.closing.specs.Recording.{Outcome, GoesOn, Ends}
+use Rattle.closing.specs.Sinks.{Outcome, GoesOn, Ends}
 use Rattle.closing.specs.inner.Standings.{message_for}
 use Rattle.closing.specs.inner.Views.{called_view}
 use Rattle.closing.specs.inner.Walks.{Spot, chosen_or_ends, collects_at, does_at, ends, exchanges_at, known_or_ends, makes_on, numbered, outcome_on, probes_at, receives_after, starts_at}

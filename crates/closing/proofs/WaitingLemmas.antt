@@ -13,7 +13,7 @@ use Rattle.journals.specs.declared.field.Field.TheVariants.{Natural, Signed, Nul
 use Rattle.closing.specs.Called.{naturals_in}
 use Rattle.closing.specs.Reported.{is_gone}
 use Rattle.closing.specs.Steps.{Id, Own, Written, Progress, Step, Does, Starts, WaitsForAll, WaitsForOne, PutsOff, WaitsForLate, number_in, numbers_of, wait_one, after_step, after_steps}
-use Rattle.closing.specs.Recording.{Outcome, GoesOn, Ends}
+use Rattle.closing.specs.Sinks.{Outcome, GoesOn, Ends}
 use Rattle.closing.specs.Entry.{Choice, id_of, ids_of, is_of_send, pass_test, passes_tests, test, unless_past, wait_for_all, wait_for_one}
 use Rattle.closing.specs.inner.Lists.{Handed, ComesTo, IsStartOf, IsStarted, Stands, is_active_send, is_send_in}
 use Rattle.closing.specs.inner.Outcomes as kept
@@ -29,7 +29,7 @@ use Rattle.closing.specs.declared.list.List.{List as ListCode}
 use Rattle.closing.specs.declared.list.Active.{Active}
 use Rattle.closing.specs.declared.stop.Stop.{Stop}
 use Rattle.closing.specs.declared.stop.Stop.TheVariants.{Left, Memory}
-use Rattle.closing.specs.declared.why.Why.TheVariants.{NeverCameBack, NeverReported, Failed, NoNumber, TooLong, CannotBe, Stopped, Aborted, Full, NoJournal}
+use Rattle.closing.specs.declared.why.Why.TheVariants.{NeverCameBack, NeverReported, Failed, NoNumber, TooLong, CannotBe, Stopped, Aborted, Full, NoJournal, NotJudged}
 
 -- ---- What is put off ----
 
@@ -346,6 +346,7 @@ comes_late (Err (Left CannotBe)) handed p late line it comes = comes
 comes_late (Err (Left Stopped)) handed p late line it comes = comes
 comes_late (Err (Left Aborted)) handed p late line it comes = comes
 comes_late (Err (Left Full)) handed p late line it comes = comes
+comes_late (Err (Left NotJudged)) handed p late line it comes = comes
 comes_late (Err (Left NoJournal)) handed p late line it comes = comes
 
 passed_is : (choice : Choice) (spot : Spot) (requests : List ℕ) → passes_tests choice.tests choice.calls ≡ true → spot.is_past ≡ false

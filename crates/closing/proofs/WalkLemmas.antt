@@ -10,21 +10,24 @@ use Rattle.journals.specs.declared.word.CallWord.{CallWord}
 use Rattle.closing.specs.Entries.{Run, Placed, journal_at}
 use Rattle.closing.specs.Entry.{Choice, matched_message}
 use Rattle.closing.specs.Fit.{EntriesFit, TestsFit}
-use Rattle.closing.specs.Steps.{Own, Step, after_steps}
-use Rattle.closing.specs.Recording.{Listed, GoesOn, cut, ended, list_from, list_of, most_records, outcome_of, whole_list, without_journal}
+use Rattle.closing.specs.Steps.{Own, Step, Written, after_steps}
+use Rattle.closing.specs.Recording.{Listed, cut, ended, list_from, list_of, most_records, outcome_in, whole_list, without_journal}
+use Rattle.closing.specs.Sinks.{GoesOn}
 use Rattle.closing.specs.Recordings.{left_in}
 use Rattle.closing.specs.inner.Holds.{HasComms}
 use Rattle.closing.specs.inner.Lists.{Handed}
 use Rattle.closing.specs.inner.Noted.{reports_in}
-use Rattle.closing.specs.inner.SoFar.{Entered, HasCalls, IsOn, IsPart, IsSoFar, comms_at, entries_left, placed_here}
+use Rattle.closing.specs.inner.SoFar.{AreEarlier, Entered, HasCalls, IsOn, IsPart, IsSoFar, comms_at, entries_left, placed_here}
 use Rattle.closing.specs.inner.Standings.{message_for}
+use Rattle.closing.specs.inner.Taken.{IsKept}
 use Rattle.closing.specs.Table.{Table}
 use Rattle.closing.specs.declared.list.List.{List as ListCode}
 use Rattle.closing.specs.declared.stop.Stop.TheVariants.{Left}
 use Rattle.closing.specs.declared.walk.Left.{Left as LeftAt}
 use Rattle.closing.specs.declared.walk.Walk.{Walk}
 use Rattle.closing.specs.declared.why.Why.{Why}
-use Rattle.closing.proofs.LineLemmas.{IsEnded, calls_ended, calls_so_far}
+use Rattle.closing.proofs.EndedLemmas.{earlier_both, earlier_more, earlier_of}
+use Rattle.closing.proofs.LineLemmas.{IsEnded, calls_ended, calls_so_far, steps_by}
 use Rattle.closing.proofs.EnteredLemmas.{CameOn, entered_end, entered_left, entered_on}
 use Rattle.closing.proofs.PlacedLemmas.{entries_after_reports, entries_at_call, entries_at_end, none_after}
 use Rattle.closing.proofs.WalkingLemmas.{list_begins}
@@ -103,7 +106,7 @@ module _ (run : Run) (choice : Choice) (journal : Journal) (table now : Table) (
       entries_at_call old.rank journal old.next word there
       ∙ ap (λ others. placed ∷ others) (entries_after_reports old.rank journal (old.next + 1) (length (reports_in (drop (old.next + 1) journal.lines))) refl)
 
-  list_left : list_from run choice so_far.progress (placed ∷ entries_left old.rank journal after) ≡ whole_list run choice old.rank
+  pub list_left : list_from run choice so_far.progress (placed ∷ entries_left old.rank journal after) ≡ whole_list run choice old.rank
   list_left = ap (λ entries. list_from run choice so_far.progress entries) (sym others_are) ∙ so_far.list
 
   fit_left : EntriesFit run choice so_far.progress (placed ∷ entries_left old.rank journal after)
@@ -123,6 +126,7 @@ module _ (run : Run) (choice : Choice) (journal : Journal) (table now : Table) (
     pub last : new.last ≡ old.last
     pub outcomes : new.requests.outcomes ≡ old.requests.outcomes
     pub late : map Own new.late.items ≡ (after_steps so_far.progress line steps).late
+    pub kept : IsKept (after_steps so_far.progress line steps).records new
     pub comms : HasComms now new.comms (comms_at old.rank journal.lines after)
     pub requests : (request : ℕ) → message_for new.requests request ≡ matched_message (take after journal.lines) request
 
@@ -138,6 +142,13 @@ module _ (run : Run) (choice : Choice) (journal : Journal) (table now : Table) (
       frees = so_far.frees;
       stands = came.stands;
       late = is.late;
+      kept = is.kept;
+      earlier =
+          let by = steps_by placed.line so_far.progress steps in
+          subst (λ (records : List Written). AreEarlier (new.next + 2) records) (sym by.records)
+          (earlier_both (new.next + 2) so_far.progress.records by.more
+          (earlier_more (old.next + 2) (new.next + 2) so_far.progress.records (omega (arith, is.next)) so_far.earlier)
+          (earlier_of placed.line (new.next + 2) by.more (omega (arith, is.next)) by.all));
       list =
           ap (λ rank. list_from run choice (after_steps so_far.progress placed.line steps) (entries_left rank journal new.next)) is.rank
           ∙ ap (λ n. list_from run choice (after_steps so_far.progress placed.line steps) (entries_left old.rank journal n)) is.next
@@ -158,22 +169,22 @@ module _ (run : Run) (choice : Choice) (journal : Journal) (table now : Table) (
 
   -- with one with which the list goes on, it does
   pub entry_goes_on : (before : ℕ) → length so_far.progress.records ≤ before
-      → Entered (Ok false) (outcome_of run choice placed) so_far.handed so_far.progress placed.line new.list
-      → ((steps : List Step) → outcome_of run choice placed ≡ GoesOn steps → IsNext placed.line before steps) → journal_at run old.rank ≡ Some journal → IsOn run choice now new
+      → Entered (Ok false) (outcome_in run choice so_far.progress.records placed) so_far.handed so_far.progress placed.line new.list
+      → ((steps : List Step) → outcome_in run choice so_far.progress.records placed ≡ GoesOn steps → IsNext placed.line before steps) → journal_at run old.rank ≡ Some journal → IsOn run choice now new
   entry_goes_on before count entered is at =
       let came = entered_on run choice placed (entries_left old.rank journal after) (whole_list run choice old.rank) so_far.handed before so_far.progress new.list list_left fit_left tests_left count entered in
       goes_on before came.0 came.1.1 (is came.0 came.1.0) at
 
   -- the rank's last call
   pub entry_ends : (before : ℕ) (list : ListCode) → length so_far.progress.records ≤ before
-      → Entered (Ok true) (outcome_of run choice placed) so_far.handed so_far.progress placed.line list
+      → Entered (Ok true) (outcome_in run choice so_far.progress.records placed) so_far.handed so_far.progress placed.line list
       → IsEnded (cut (whole_list run choice old.rank)) so_far.handed list Finalize before placed.line None
   entry_ends before list count entered =
       entered_end run choice placed (entries_left old.rank journal after) (whole_list run choice old.rank) so_far.handed before so_far.progress list list_left count entered
 
   -- one at which the list is left
   pub entry_leaves : (before : ℕ) (list : ListCode) (why : Why) → length so_far.progress.records ≤ before
-      → Entered (Err (Left why)) (outcome_of run choice placed) so_far.handed so_far.progress placed.line list
+      → Entered (Err (Left why)) (outcome_in run choice so_far.progress.records placed) so_far.handed so_far.progress placed.line list
       → IsEnded (cut (whole_list run choice old.rank)) so_far.handed list Open before placed.line (Some why)
   entry_leaves before list why count entered =
       entered_left run choice placed (entries_left old.rank journal after) (whole_list run choice old.rank) so_far.handed before so_far.progress list why list_left count entered

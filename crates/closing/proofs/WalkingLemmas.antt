@@ -3,7 +3,8 @@ use Rattle.std.proofs.Common.{◌≡◌, refl, sym, ◌∙◌, ap, ℕ, List, []
 use Rattle.closing.specs.Entries.{Run, Placed}
 use Rattle.closing.specs.Steps.{Written, Progress, after_steps}
 use Rattle.closing.specs.Entry.{Choice}
-use Rattle.closing.specs.Recording.{Listed, Outcome, GoesOn, Ends, go_on, list_from, outcome_of}
+use Rattle.closing.specs.Recording.{Listed, go_on, list_from, outcome_in}
+use Rattle.closing.specs.Sinks.{Outcome, GoesOn, Ends}
 use Rattle.closing.specs.inner.Walking.{Comes, Stops, course_with, course_from, list_in}
 use Rattle.closing.proofs.GrownLemmas.{grown_all, same_records}
 
@@ -22,11 +23,11 @@ pub list_by_entries : (run : Run) (choice : Choice) (progress : Progress) (entri
     → list_from run choice progress entries ≡ list_in (course_from run choice (Comes progress) entries)
 list_by_entries run choice progress [] = refl
 list_by_entries run choice progress (placed ∷ others) =
-    by_outcome run choice progress placed.line others (outcome_of run choice placed) (λ after. list_by_entries run choice after others)
+    by_outcome run choice progress placed.line others (outcome_in run choice progress.records placed) (λ after. list_by_entries run choice after others)
 
 -- after an entry with which the list goes on
 pub list_goes_on : (run : Run) (choice : Choice) (progress : Progress) (placed : Placed) (others : List Placed) (steps : _)
-    → outcome_of run choice placed ≡ GoesOn steps
+    → outcome_in run choice progress.records placed ≡ GoesOn steps
     → list_from run choice progress (placed ∷ others) ≡ list_from run choice (after_steps progress placed.line steps) others
 list_goes_on run choice progress placed others steps e = ap (λ outcome. go_on progress placed.line outcome (λ after. list_from run choice after others)) e
 
@@ -44,4 +45,4 @@ pub list_begins : (run : Run) (choice : Choice) (progress : Progress) (entries :
     → (more : List Written) × ((list_from run choice progress entries).records ≡ progress.records ++ more)
 list_begins run choice progress [] = same_records progress
 list_begins run choice progress (placed ∷ others) =
-    begins_with run choice progress placed.line others (outcome_of run choice placed) (λ after. list_begins run choice after others)
+    begins_with run choice progress placed.line others (outcome_in run choice progress.records placed) (λ after. list_begins run choice after others)

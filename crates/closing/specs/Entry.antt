@@ -35,11 +35,13 @@ use Rattle.closing.specs.declared.choice.Tests.{Tests as TestsChoice}
 use Rattle.closing.specs.declared.choice.Tests.TheVariants as tests
 use Rattle.closing.specs.declared.choice.Calls.{Calls}
 use Rattle.closing.specs.declared.choice.Calls.TheVariants as calls
+use Rattle.closing.specs.declared.choice.Unreported.{Unreported}
 
--- what the user chose
+-- what the user chose, and what a receive stands for of which it was never reported what it took
 pub record Choice : Type 0 where
   pub tests : TestsChoice
   pub calls : Calls
+  pub unreported : Unreported
 
 -- ---- Fields of the trace, of an entry that can be ----
 

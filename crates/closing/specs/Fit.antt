@@ -18,10 +18,11 @@ use Rattle.closing.specs.Entries.{Run, Placed, lines_at, entries_at}
 use Rattle.closing.specs.FitComms.{HasFitComms}
 use Rattle.closing.specs.Numbers.{preface_of}
 use Rattle.closing.specs.Reported.{done_in, is_gone, says_gone, says_kept}
-use Rattle.closing.specs.Steps.{Id, Own, Whole, ReceiveHalf, Written, Progress, Step, Does, Starts, number_in, after_step, after_steps}
+use Rattle.closing.specs.Steps.{Id, Own, Whole, ReceiveHalf, Sink, Written, Progress, Step, Does, Starts, number_in, after_step, after_steps}
 use Rattle.closing.specs.Endings.{size_at}
 use Rattle.closing.specs.Entry.{Choice, id_of, is_of_send, is_past, passes_tests}
-use Rattle.closing.specs.Recording.{Outcome, GoesOn, Ends, is_end, outcome_of, progress_first}
+use Rattle.closing.specs.Recording.{is_end, outcome_in, progress_first}
+use Rattle.closing.specs.Sinks.{Outcome, GoesOn, Ends}
 
 -- ---- Steps ----
 
@@ -31,6 +32,7 @@ Fits progress (Does call) = IsTrue (in_ranges call)
 Fits progress (Starts (Own request) call) = IsTrue (in_ranges (call 0)) × (number_in progress.active (Own request) ≡ None)
 Fits progress (Starts (Whole line) call) = IsTrue (in_ranges (call 0))
 Fits progress (Starts (ReceiveHalf line) call) = IsTrue (in_ranges (call 0))
+Fits progress (Starts (Sink own wanted is_known) call) = IsTrue (in_ranges (call 0))
 Fits progress step = Unit {0}
 
 -- so it is with each of these, one after the other
@@ -51,8 +53,8 @@ FitsOn progress line (Ends steps end why) others = Unit {0}
 abbrev pub EntriesFit : Run → Choice → Progress → List Placed → Type 0
 EntriesFit run choice progress [] = Unit {0}
 EntriesFit run choice progress (placed ∷ others) =
-    AllFit progress placed.line (steps_in (outcome_of run choice placed))
-    × FitsOn progress placed.line (outcome_of run choice placed) (λ after. EntriesFit run choice after others)
+    AllFit progress placed.line (steps_in (outcome_in run choice progress.records placed))
+    × FitsOn progress placed.line (outcome_in run choice progress.records placed) (λ after. EntriesFit run choice after others)
 
 -- ---- What entries name ----
 
@@ -125,7 +127,7 @@ abbrev pub TestsFit : Run → Choice → Progress → List Placed → Type 0
 TestsFit run choice progress [] = Unit {0}
 TestsFit run choice progress (placed ∷ others) =
     TestFits choice placed placed.called progress
-    × FitsOn progress placed.line (outcome_of run choice placed) (λ after. TestsFit run choice after others)
+    × FitsOn progress placed.line (outcome_in run choice progress.records placed) (λ after. TestsFit run choice after others)
 
 -- ---- Reports of requests ----
 

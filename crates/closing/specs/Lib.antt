@@ -14,7 +14,9 @@ pub mod Left
 pub mod Made
 pub mod Numbers
 pub mod Recording
+pub mod Pending
 pub mod Reported
+pub mod Sinks
 pub mod Steps
 pub mod Table
 pub mod Texts

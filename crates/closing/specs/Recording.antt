@@ -1,13 +1,16 @@
 -- The recording of the journals of a run: the groups of its communicators, and each rank's list.
-use Rattle.std.specs.Prelude.{ℕ, ◌-◌, Bool, true, false, nat_lt, Option, Some, None, is_none, if◌then◌else◌, List, [], ◌∷◌, ◌++◌, length, map, take, slice_get}
+use Rattle.std.specs.Prelude.{ℕ, ◌-◌, Bool, true, false, nat_lt, Option, Some, None, is_none, unwrap_or, if◌then◌else◌, List, [], ◌∷◌, ◌++◌, length, map, take, slice_get}
 use Rattle.mpicall.specs.declared.call.Call.{Call}
 use Rattle.mpicall.specs.declared.call.Call.TheVariants.{Finalize, Open}
 use Rattle.closing.specs.Called.{Called, StartsExchange, Finalizes, Exits}
 use Rattle.closing.specs.Entries.{Run, Placed, journal_at, entries_at, ranks_of}
 use Rattle.closing.specs.Numbers.{groups_of, preface_of}
-use Rattle.closing.specs.Steps.{Step, WaitsForLate, Written, Progress, plain, after_steps}
+use Rattle.closing.specs.Steps.{Id, Step, WaitsForLate, Written, Progress, plain, after_steps}
 use Rattle.closing.specs.Endings.{why_at}
 use Rattle.closing.specs.Entry.{Choice, steps_of}
+use Rattle.closing.specs.Sinks.{Outcome, GoesOn, Ends, outcome_by_sinks}
+use Rattle.closing.specs.declared.choice.Unreported.{Unreported}
+use Rattle.closing.specs.declared.choice.Unreported.TheVariants as unreported
 use Rattle.closing.specs.declared.why.Why.{Why}
 use Rattle.closing.specs.declared.why.Why.TheVariants.{NeverReported, TooLong, NoJournal}
 
@@ -15,23 +18,19 @@ use Rattle.closing.specs.declared.why.Why.TheVariants.{NeverReported, TooLong, N
 abbrev pub most_records : ℕ
 most_records = 1000000
 
--- a rank's list without its end; its end; the number of the end's line in the journal, 0 where none gives it; and why
--- it ends there, where that is before its end
+-- a rank's list without its end; its end; the number of the end's line in the journal, 0 where none gives it; why it
+-- ends there, where that is before its end; and the requests that are active there
 pub record Listed : Type 0 where
   pub records : List Written
   pub end : Call
   pub line : ℕ
   pub why : Option Why
+  pub active : List (Id × ℕ)
 
 abbrev pub ended : Progress → Call → ℕ → Option Why → Listed
-ended progress end line why = record { records = progress.records; end = end; line = line; why = why }
+ended progress end line why = record { records = progress.records; end = end; line = line; why = why; active = progress.active }
 
 -- ---- Entries ----
-
--- the list goes on after an entry, or ends
-pub data Outcome : Type 0 where
-  GoesOn : List Step → Outcome
-  Ends : List Step → Call → Option Why → Outcome
 
 -- the rank's last call, or the end of its program
 abbrev pub is_end : Called → Bool
@@ -52,6 +51,14 @@ outcome_by run choice placed None =
 abbrev pub outcome_of : Run → Choice → Placed → Outcome
 outcome_of run choice placed = outcome_by run choice placed (why_at run placed)
 
+-- by the sinks before the entry, where lists have any
+abbrev pub outcome_in : Run → Choice → List Written → Placed → Outcome
+outcome_in run choice records placed = by_choice choice.unreported
+  where
+    by_choice : Unreported → Outcome
+    by_choice unreported.Ends = outcome_of run choice placed
+    by_choice unreported.Sinks = unwrap_or (outcome_by_sinks run choice records placed) (outcome_of run choice placed)
+
 -- ---- Lists ----
 
 abbrev pub go_on : Progress → ℕ → Outcome → (Progress → Listed) → Listed
@@ -62,7 +69,7 @@ go_on progress line (Ends steps end why) others = ended (after_steps progress li
 abbrev pub list_from : Run → Choice → Progress → List Placed → Listed
 list_from run choice progress [] = ended progress Open 0 None
 list_from run choice progress (placed ∷ others) =
-    go_on progress placed.line (outcome_of run choice placed) (λ progress. list_from run choice progress others)
+    go_on progress placed.line (outcome_in run choice progress.records placed) (λ progress. list_from run choice progress others)
 
 -- after the preface, whose line is 0
 abbrev pub progress_first : Run → ℕ → Progress
@@ -86,6 +93,7 @@ cut it =
       end = Open;
       line = line_of (slice_get it.records (most_records - 1));
       why = Some TooLong;
+      active = it.active;
     }
 
 -- ---- The recording ----

@@ -9,7 +9,7 @@ use Rattle.closing.specs.declared.choice.Choice.{Choice as ChoiceMade}
 use Rattle.closing.specs.declared.walk.Left.{Left}
 
 abbrev pub choice_in : ChoiceMade → Choice
-choice_in it = record { tests = it.tests; calls = it.calls }
+choice_in it = record { tests = it.tests; calls = it.calls; unreported = it.unreported }
 
 -- of each rank: how many calls of its list were handed on, how many were made, and how many of these before the last
 -- entry; and how many lines of its journal are left, with one for the end of its list, so that it is none where that has

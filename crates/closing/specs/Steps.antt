@@ -4,13 +4,16 @@ use Rattle.std.specs.List.{list_any, find, range_with_len}
 use Rattle.mpicall.specs.declared.limits.TheConstants.{MOST_REQUESTS}
 use Rattle.mpicall.specs.declared.call.Call.{Call}
 use Rattle.mpicall.specs.declared.call.Call.TheVariants.{Wait, Waitall, Waitany}
+use Rattle.closing.specs.declared.pending.Wanted.{Wanted}
 
--- what a request of the trace stands for: a request or message of the journal, by its own number; or what the blocking
--- call of a line started, of an exchange the send or the receive
+-- what a request of the trace stands for: a request or message of the journal, by its own number; what the blocking
+-- call of a line started, of an exchange the send or the receive; or a sink, with its request or message of the journal,
+-- if it has one, what it may take, and whether it was reported what it took
 pub data Id : Type 0 where
   Own : ℕ → Id
   Whole : ℕ → Id
   ReceiveHalf : ℕ → Id
+  Sink : Option ℕ → Wanted → Bool → Id
 
 abbrev pub same_id : Id → Id → Bool
 same_id (Own request) (Own request') = request == request'

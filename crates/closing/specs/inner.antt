@@ -20,4 +20,7 @@ pub mod Surveyed
 pub mod Numbered
 pub mod Makers
 pub mod Rankwise
+pub mod Sinks
 pub mod SoFar
+pub mod Taken
+pub mod Sunk

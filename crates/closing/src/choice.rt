@@ -18,9 +18,19 @@ pub enum Calls {
     Went,
 }
 
-/// What the user chose.
+/// What a started receive stands for of which it was never reported what it took.
+#[derive(Clone, Copy, Debug, PartialEq, Eq)]
+pub enum Unreported {
+    /// The end of its list.
+    Ends,
+    /// A start that no message meets; the list goes on as far as it is known what stands for its entries.
+    Sinks,
+}
+
+/// How journals are closed: what the user chose, and what a receive stands for whose message isn't known.
 #[derive(Clone, Copy, Debug, PartialEq, Eq)]
 pub struct Choice {
     pub tests: Tests,
     pub calls: Calls,
+    pub unreported: Unreported,
 }

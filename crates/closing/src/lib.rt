@@ -37,6 +37,7 @@ mod list;
 mod message;
 pub mod numbers;
 mod outcomes;
+pub mod pending;
 mod places;
 mod rank_comms;
 mod rank_numbers;

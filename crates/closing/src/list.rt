@@ -1,11 +1,11 @@
 //! The list of a rank: its records so far, and the numbers of its requests.
 
-ghost use Rattle.std.specs.Prelude.{◌≡◌, ◌<◌, ◌≤◌, ◌+◌, [], ◌∷◌, ◌++◌, ℕ, List as Items, nat_eq, map, take, drop, length, slice_index, true, false, IsTrue, OnOk};
+ghost use Rattle.std.specs.Prelude.{◌≡◌, ◌<◌, ◌≤◌, ◌+◌, [], ◌∷◌, ◌++◌, ℕ, List as Items, nat_eq, map, take, drop, length, slice_index, true, false, IsTrue, IfOk, OnOk};
 ghost use Rattle.std.specs.HashMap.{get};
 ghost use Rattle.mpicall.specs.Limits.{in_ranges};
 ghost use Rattle.closing.specs.inner.Free.{AreNumbered, KeepsFree, Requests, TakesLeast};
 ghost use Rattle.closing.specs.inner.Lists.{Adds, AreApart, AreHeld, AreSmall, ComesTo, FindsOnly, FreesOnly, Handed, HasIds, IsUnnamed, KeepsLines, KeepsRecords, Owns, Puts, Stands, TakesFree, TakesNumbers, TakesOne, found_call, found_number, has_place, is_send_in, is_start_of_send, start_call};
-ghost use Rattle.closing.specs.Steps.{Does, Id, Own, Progress, Starts, WaitsForAll, WaitsForOne, after_step, has_number, number_in, numbers_of, wait_for, wait_for_one, waits_for, without, without_all};
+ghost use Rattle.closing.specs.Steps.{Does, Id, Own, Progress, Starts, WaitsForAll, WaitsForOne, after_step, has_number, least_free, number_in, numbers_of, wait_for, wait_for_one, waits_for, without, without_all};
 
 use crate::freed::Freed;
 use crate::places::index_of;
@@ -218,6 +218,13 @@ impl List {
         }
     }
 
+    /// The place of the next record.
+    pub(crate) fn place(&self) -> u32
+        ensures { result ≡ self.now.count }
+    {
+        self.count
+    }
+
     /// Adds a line that has room in every list: its end, or a line of the preface.
     pub(crate) fn put(&mut self, call: Call) -> Result<(), AllocError>
         ensures records { OnOk result (IsTrue (in_ranges call) → self.new.records.items ≡ self.old.records.items ++ call ∷ []) }
@@ -284,6 +291,16 @@ impl List {
     {
         let number = self.take_number();
         self.add(start.call(number))
+    }
+
+    /// The same; answers the number of the request.
+    pub(crate) fn starts_numbered(&mut self, start: Start) -> Result<u32, Stop>
+        ensures comes { (handed : Handed) (progress : Progress) (line : ℕ) (id : Id) → Stands handed progress self.old → IsTrue (in_ranges (start_call start 0)) → IsUnnamed id → ComesTo result handed (after_step progress line (Starts id (start_call start))) line self.new }
+        ensures number { IfOk result (λ number. (handed : Handed) (progress : Progress) → Stands handed progress self.old → number ≡ least_free progress.active) }
+    {
+        let number = self.take_number();
+        self.add(start.call(number))?;
+        Ok(number)
     }
 
     /// Puts a line that starts a request, by the rank's own number of it.

@@ -1,7 +1,7 @@
 //! The recording of the journals of a run: the groups of its communicators, and each rank's list, entry by
 //! entry.
 
-ghost use Rattle.std.specs.Prelude.{◌≡◌, ◌<◌, ◌≤◌, ◌==◌, ◌+◌, ◌^◌, ℕ, true, [], length, map, replicate, slice_get, option_and_then, option_map, Option, List, IfErr, IfOk, OnOk, Some, None};
+ghost use Rattle.std.specs.Prelude.{◌≡◌, ◌<◌, ◌≤◌, ◌==◌, ◌+◌, ◌^◌, ℕ, true, [], length, map, replicate, slice_get, option_and_then, option_map, Option, List, IfErr, IfOk, OnOk, Some, None, flat_map};
 ghost use Rattle.std.specs.Option.{option_copied};
 ghost use Rattle.closing.specs.Entries.{lines_in};
 ghost use Rattle.closing.specs.Fit.{IsFit};
@@ -13,10 +13,13 @@ ghost use Rattle.journals.specs.declared.journal.Journal.{Journal as JournalRead
 ghost use Rattle.closing.specs.declared.choice.Choice.{Choice as ChoiceMade};
 ghost use Rattle.closing.specs.inner.Numbered.{IsNumberedRun};
 ghost use Rattle.closing.specs.inner.Rankwise.{AreFew, HaveWalks, IsRecording, TakesStep};
+ghost use Rattle.closing.specs.Left.{left_by, left_said};
+ghost use Rattle.closing.specs.Pending.{pending_of, sinks_of, pending_said};
 ghost use Rattle.closing.specs.Recordings.{ChangesOnly, HasRanks, IsPartMade, calls_waiting, choice_in, count_at, left_in, line_at, list_at};
 
 use crate::choice::Choice;
 use crate::numbers::Communicators;
+use crate::pending::{Pending, Sink};
 use crate::places::checked_rank;
 use crate::walk::{Left, Walk};
 use journals::journal::Journal;
@@ -271,6 +274,39 @@ impl Recording {
             → result ≡ left_in (list_at self.now rank) }
     {
         self.walks.get(usize::from(rank))?.left()
+    }
+
+    /// The receives of a rank's list whose messages aren't known, by their places.
+    pub fn sinks(&self, rank: u16) -> &[Sink]
+        ensures { IsFit self.now.run self.now.choice → rank < length self.now.run → count_at self.now.left rank ≡ 0
+            → result.now ≡ sinks_of (list_at self.now rank) }
+    {
+        match self.walks.get(usize::from(rank)) {
+            Some(walk) => walk.sinks(),
+            None => &[],
+        }
+    }
+
+    /// The call in which a rank was when its list was left open.
+    pub fn pending(&self, rank: u16) -> Option<&Pending>
+        ensures { IsFit self.now.run self.now.choice → rank < length self.now.run → count_at self.now.left rank ≡ 0
+            → option_map (λ it. pending_said it.now) result ≡ Some (pending_of self.now.run self.now.choice rank) }
+    {
+        match self.walks.get(usize::from(rank)) {
+            Some(walk) => Some(walk.pending()),
+            None => None,
+        }
+    }
+
+    /// The entries of a rank before its list's end that stand in no line of their own, and why.
+    pub fn left_out(&self, rank: u16) -> &[Left]
+        ensures { IsFit self.now.run self.now.choice → rank < length self.now.run → count_at self.now.left rank ≡ 0
+            → map (left_said rank) result.now ≡ flat_map (left_by rank (list_at self.now rank)) (list_at self.now rank).records }
+    {
+        match self.walks.get(usize::from(rank)) {
+            Some(walk) => walk.left_out(),
+            None => &[],
+        }
     }
 
     /// Whether the record at a place of a rank's list starts a request that the rank's program frees.

@@ -43,6 +43,7 @@ use crate::last::{LastCall, Reports, last_call, reports_from};
 use crate::list::List;
 use crate::message::{Message, message_in};
 use crate::numbers::{Communicators, Named};
+use crate::pending::{Pending, Sink, Sinks};
 use crate::rank_comms::RankComms;
 use crate::standing::Standing;
 use crate::stop::Stop;
@@ -59,6 +60,7 @@ use std::alloc::{AllocError, Global};
 mod collective;
 mod made;
 mod message;
+mod sinks;
 mod wait;
 
 /// At which line, and why, the list of a rank ends before its end. The header is line 1; 0 is none.
@@ -76,6 +78,7 @@ struct At<'a> {
     /// Its wave, and the key of what its call made.
     wave: Option<Wave>,
     made: Option<u32>,
+    came_back: bool,
     /// As it went, it stands for what it started alone.
     is_past: bool,
     got: Option<Message>,
@@ -143,6 +146,11 @@ pub struct Walk {
     before: usize,
     is_over: bool,
     left: Option<Left>,
+    /// What is known of receives whose messages aren't, and of the call in which the rank was; and the entries that
+    /// stand in no line of their own.
+    sinks: Sinks,
+    pending: Pending,
+    left_out: Vec<Left>,
 }
 
 /// The number of a line in the journal, by its place after the header.
@@ -239,6 +247,9 @@ impl Walk {
             before: 0,
             is_over: false,
             left: None,
+            sinks: Sinks::new(alloc),
+            pending: Pending::unknown(alloc),
+            left_out: Vec::new(alloc),
         };
         walk.put_preface(run)?;
         match journal {
@@ -345,6 +356,27 @@ impl Walk {
         ensures { result ≡ self.now.left }
     {
         self.left
+    }
+
+    /// The receives whose messages aren't known, by their places.
+    pub(crate) fn sinks(&self) -> &[Sink]
+        ensures { result.now ≡ self.now.sinks.all.items }
+    {
+        self.sinks.all()
+    }
+
+    /// The call in which the rank was when its list was left open.
+    pub(crate) fn pending(&self) -> &Pending
+        ensures { result.now ≡ self.now.pending }
+    {
+        &self.pending
+    }
+
+    /// The entries before the end that stand in no line of their own, and why.
+    pub(crate) fn left_out(&self) -> &[Left]
+        ensures { result.now ≡ self.now.left_out.items }
+    {
+        self.left_out.as_slice()
     }
 
     /// Whether the record at a place starts a request that the rank's program frees.
@@ -456,7 +488,7 @@ impl Walk {
         lines: &Lines,
         entry: &Entry,
     ) -> Result<bool, Stop>
-        ensures same { self.new ≡ record self.old { comms = self.new.comms; list = self.new.list; requests = self.new.requests; late = self.new.late; ids = self.new.ids; wanted = self.new.wanted } }
+        ensures same { self.new ≡ record self.old { comms = self.new.comms; list = self.new.list; requests = self.new.requests; late = self.new.late; ids = self.new.ids; wanted = self.new.wanted; sinks = self.new.sinks; pending = self.new.pending; left_out = self.new.left_out } }
         ensures outcomes { self.new.requests.outcomes ≡ self.old.requests.outcomes }
         ensures run { run.new ≡ record run.old { keys = run.new.keys } }
         ensures entered { (said : Run) (heading : Heading) (handed : Handed) (progress : Progress) →
@@ -477,6 +509,10 @@ impl Walk {
             return Err(Stop::Left(Why::Failed));
         }
         let at = self.at(run, lines, entry, &it)?;
+        let is_taken = self.takes_sink(lines, &at, &it)?;
+        if is_taken {
+            return Ok(false);
+        }
         self.take(run, lines, &at, &it)?;
         Ok(false)
     }
@@ -513,6 +549,7 @@ impl Walk {
             named: run.named_if(key),
             wave,
             made: reported.or(self.inferred(run, it, entry.place)),
+            came_back: self.came_back(entry.place),
             is_past: self.is_past(entry.place),
             got: message_in(fields_at(lines, entry.reports.got)),
             chose: fields_if(lines, entry.reports.chose),

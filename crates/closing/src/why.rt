@@ -25,6 +25,9 @@ pub enum Why {
     Aborted,
     #[error("full")]
     Full,
+    /// It may have taken what another receive took.
+    #[error("not judged")]
+    NotJudged,
     /// The rank has no journal.
     #[error("no journal")]
     NoJournal,

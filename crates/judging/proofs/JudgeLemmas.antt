@@ -1,33 +1,40 @@
 -- The report of the run that the files hold, or why there is none.
-use Rattle.std.proofs.Common.{◌≡◌, ◌∙◌, ℕ, Option, List, [], Ok, Err, length, map, refl, sym, ap, subst, arith}
+use Rattle.std.proofs.Common.{◌≡◌, ◌∙◌, ℕ, Option, List, [], ◌++◌, Ok, Err, length, map, refl, sym, ap, subst, arith}
 use Rattle.std.specs.Prelude.{Result, IfOk, IfErr, OnOk}
 use Rattle.std.specs.Result.{IsErrAnd}
-use Rattle.findings.specs.Findings.{findings_of}
+use Rattle.callstore.specs.Recordings.{Lists}
 use Rattle.findings.specs.declared.finding.Finding.{Finding}
 use Rattle.moves.specs.Analysed.{Analysed}
 use Rattle.moves.specs.declared.reading.Reading.{Reading}
+use Rattle.waitgraph.specs.Pending.{Known as PendingKnown}
+use Rattle.waitgraph.specs.PendingGraphs.{findings_by}
+use Rattle.waitgraph.specs.PendingStays.{FitsSinks}
+use Rattle.waitgraph.specs.declared.awaited.Awaited.{Awaited}
 use Rattle.waitgraph.specs.declared.verdict.Verdict.{Verdict}
 use Rattle.closing.specs.Entries.{Run}
 use Rattle.closing.specs.Entry.{Choice}
 use Rattle.closing.specs.Journals.{run_of}
 use Rattle.closing.specs.Recording.{recording_of, calls_of}
-use Rattle.closing.specs.Recordings.{RecordingView, choice_in}
+use Rattle.closing.specs.Recordings.{RecordingView}
 use Rattle.closing.specs.Left.{left_of}
 use Rattle.lawful.specs.Laws.{IsRead}
 use Rattle.report.specs.declared.judged.LineAt.{LineAt}
 use Rattle.report.specs.declared.write.Format.{Format}
 use Rattle.report.specs.declared.write.Format.TheVariants.{Text, Json}
+use Rattle.waitgraph.proofs.PendingStaysLemmas.{held_ranks_stay_by}
 use Rattle.judging.specs.JournalTexts.{Known, AreKnown}
 use Rattle.judging.specs.Judging.{IsJudgedReport, IsRecordingOfRun, IsFaultOfJudge, frees_start, left_words, reported_by}
+use Rattle.judging.specs.KnownCalls.{calls_at_opens, judged_choice, known_of}
 use Rattle.judging.specs.NamedCalls.{HaveLines, HaveNumbers, calls_in, calls_named, lines_of}
 use Rattle.judging.specs.declared.judge.JudgeFault.{JudgeFault}
 use Rattle.judging.specs.declared.judge.JudgeFault.TheVariants.{Read, Head, Refused, Unended, Memory, Write}
 use Rattle.judging.specs.declared.judge.Manner.{Manner}
 use Rattle.judging.specs.inner.Reported.{IsLined, IsReportedOf, IsRunOf, IsLate}
 use Rattle.judging.specs.inner.Tables.{HasAllLines}
-use Rattle.judging.specs.inner.Turns.{HasAll, IsFresh}
+use Rattle.judging.specs.inner.Turns.{HasAll, IsDone, IsFresh}
 use Rattle.judging.specs.inner.Unwritten.{IsOfRecording}
 use Rattle.judging.proofs.HeadOf.{groups_there}
+use Rattle.judging.proofs.SinkFitLemmas.{sinks_fit}
 use Rattle.judging.proofs.TableLemmas.{numbered}
 
 -- the numbers of lines are those of the lists; in text there is none
@@ -38,16 +45,19 @@ numbered_in Text rows lines it are none all =
     subst (λ (ls : List LineAt). HaveNumbers (map lines_of (recording_of it.run it.choice).lists) ls) (sym (none refl)) (λ place other within. absurd (omega (arith, within)))
 
 module _ (known : Known) (manner : Manner) (begun : RecordingView) (run : IsRunOf known begun.run) (fresh : IsFresh begun) where
-  module _ (it : RecordingView) (analysed : Analysed) (choice : begun.choice ≡ choice_in manner.choice) (has : IsFresh begun → IsRead begun.run → HasAll begun it analysed) where
+  module _ (it : RecordingView) (analysed : Analysed) (pending : PendingKnown) (choice : begun.choice ≡ judged_choice manner.choice) (has : IsFresh begun → IsRead begun.run → HasAll begun it analysed) (are_known : IsDone it → pending ≡ known_of it.run it.choice) where
     pub judged_report : (rows : List (List ℕ)) (table : IsFresh begun → IsRead begun.run → manner.format ≡ Json → HasAllLines it rows) (verdict : Verdict) (report : List ℕ) →
-        IsReportedOf it rows analysed manner verdict report → IsJudgedReport known manner verdict report
+        IsReportedOf it rows analysed pending manner verdict report → IsJudgedReport known manner verdict report
     judged_report rows table verdict report of = record {
       groups = analysed.groups;
       recording = analysed.recording;
       judged = of.judged;
       one_a_rank = of.reported.one_a_rank;
       closed = of.reported.closed;
+      pending = pending;
       is_verdict = of.reported.is_verdict;
+      at_open = of.at_open;
+      are_awaited = of.reported.are_awaited;
       causes = of.reported.causes;
       are_causes = of.reported.are_causes;
       is_text = of.reported.is_text;
@@ -57,18 +67,26 @@ module _ (known : Known) (manner : Manner) (begun : RecordingView) (run : IsRunO
     }
       where
         of_run : (first : List ℕ) (texts : ℕ → Option (List ℕ)) (hold : Run) → AreKnown known (length hold) first texts → run_of first texts ≡ Ok hold →
-            IsRecordingOfRun hold (choice_in manner.choice) analysed.groups analysed.recording of.judged
+            IsRecordingOfRun hold (judged_choice manner.choice) analysed.groups analysed.recording pending of.judged
         of_run first texts hold are is =
             let same : begun.run ≡ hold = run.same first texts hold are is in
             let read : IsRead begun.run = record { first = first; texts = texts; is_read = is ∙ ap (λ (r : Run). Ok r) (sym same) } in
             let all = has fresh read in
-            let own : it.choice ≡ choice_in manner.choice = all.choice ∙ choice in
-            subst (λ (r : Run). IsRecordingOfRun r (choice_in manner.choice) analysed.groups analysed.recording of.judged) (all.run ∙ same) (record {
-              groups_are = all.groups ∙ sym (groups_there it.run (choice_in manner.choice));
-              lists_are = all.recording ∙ ap (λ (c : Choice). map calls_of (recording_of it.run c).lists) own;
+            let own : it.choice ≡ judged_choice manner.choice = all.choice ∙ choice in
+            let lists_are : analysed.recording ≡ map calls_of (recording_of it.run (judged_choice manner.choice)).lists =
+            all.recording ∙ ap (λ (c : Choice). map calls_of (recording_of it.run c).lists) own in
+            let known_are : pending ≡ known_of it.run (judged_choice manner.choice) = are_known all.done ∙ ap (λ (c : Choice). known_of it.run c) own in
+            let fits : FitsSinks analysed.recording pending.sinks =
+            subst (λ (l : Lists). FitsSinks l pending.sinks) (sym lists_are)
+            (subst (λ (k : PendingKnown). FitsSinks (map calls_of (recording_of it.run (judged_choice manner.choice)).lists) k.sinks) (sym known_are) (sinks_fit it.run (judged_choice manner.choice))) in
+            subst (λ (r : Run). IsRecordingOfRun r (judged_choice manner.choice) analysed.groups analysed.recording pending of.judged) (all.run ∙ same) (record {
+              groups_are = all.groups ∙ sym (groups_there it.run (judged_choice manner.choice));
+              lists_are = lists_are;
+              known_are = known_are;
+              held_stay = λ reading rank held. held_ranks_stay_by reading analysed.groups analysed.recording pending rank fits held;
               findings_are =
                   of.findings all.done
-                  ∙ ap (λ (c : Choice). reported_by manner.choice.calls (frees_start it.run c) (findings_of analysed.groups analysed.recording)) own;
+                  ∙ ap (λ (c : Choice). reported_by manner.choice.calls (frees_start it.run c) (findings_by analysed.groups analysed.recording pending.sinks)) own;
               left_is = of.left all.done ∙ ap (λ (c : Choice). map left_words (left_of (recording_of it.run c).lists)) own;
               lines_are = subst (λ (c : Choice). HaveNumbers (map lines_of (recording_of it.run c).lists) of.judged.lines.now) own
                   (numbered_in manner.format rows of.judged.lines.now it of.lines.numbers of.lines.none (table fresh read));
@@ -115,31 +133,30 @@ on_ok_both (Err fault) P O Q says is also = tt
 
 -- ---- The lines of a report ----
 
-pub lined_json : {T E : Type 0} (items_of : T → List LineAt) (answer : Result T E) (rows : List (List ℕ)) (manner : Manner) (analysed : Analysed) (findings : List Finding) →
-    manner.format ≡ Json → analysed.reading ≡ manner.reading →
-    IfOk answer (λ it. HaveLines (calls_named analysed.reading analysed.groups analysed.recording findings) (items_of it)) → IfOk answer (λ it. HaveNumbers rows (items_of it)) →
-    IfOk answer (λ it. IsLined rows manner analysed findings (items_of it))
-lined_json items_of (Ok it) rows manner analysed findings json reading names numbers = record {
-  names =
-      subst (λ (f : Format). HaveLines (calls_in f (calls_named manner.reading analysed.groups analysed.recording findings)) (items_of it)) (sym json)
-      (subst (λ (r : Reading). HaveLines (calls_named r analysed.groups analysed.recording findings) (items_of it)) reading names);
-  numbers = λ _. numbers;
-  none = λ text. absurd (json_text (sym json ∙ text));
-}
-  where
-    json_text : ◌≡◌ {A = Format} Json Text → ⊥
-    json_text h = cc
-lined_json items_of (Err fault) rows manner analysed findings json reading names numbers = tt
+module _ (rows : List (List ℕ)) (manner : Manner) (analysed : Analysed) (pending : PendingKnown) (at_open : List (List Awaited)) (findings : List Finding) where
+  pub lined_json : {T E : Type 0} (items_of : T → List LineAt) (answer : Result T E) → manner.format ≡ Json → analysed.reading ≡ manner.reading →
+      IfOk answer (λ it. HaveLines (calls_named analysed.reading analysed.groups analysed.recording findings ++ calls_at_opens analysed.reading analysed.groups analysed.recording pending at_open) (items_of it)) →
+      IfOk answer (λ it. HaveNumbers rows (items_of it)) → IfOk answer (λ it. IsLined rows manner analysed pending at_open findings (items_of it))
+  lined_json items_of (Ok it) json reading names numbers = record {
+    names =
+        subst (λ (f : Format). HaveLines (calls_in f (calls_named manner.reading analysed.groups analysed.recording findings ++ calls_at_opens manner.reading analysed.groups analysed.recording pending at_open)) (items_of it)) (sym json)
+        (subst (λ (r : Reading). HaveLines (calls_named r analysed.groups analysed.recording findings ++ calls_at_opens r analysed.groups analysed.recording pending at_open) (items_of it)) reading names);
+    numbers = λ _. numbers;
+    none = λ text. absurd (json_text (sym json ∙ text));
+  }
+    where
+      json_text : ◌≡◌ {A = Format} Json Text → ⊥
+      json_text h = cc
+  lined_json items_of (Err fault) json reading names numbers = tt
 
-pub lined_text : (rows : List (List ℕ)) (manner : Manner) (analysed : Analysed) (findings : List Finding) (lines : List LineAt) → manner.format ≡ Text → lines ≡ [] →
-    IsLined rows manner analysed findings lines
-lined_text rows manner analysed findings lines text none = record {
-  names =
-      subst (λ (f : Format). HaveLines (calls_in f (calls_named manner.reading analysed.groups analysed.recording findings)) lines) (sym text)
-      (subst (λ (ls : List LineAt). HaveLines [] ls) (sym none) (record { are_these = λ rank place. refl; in_order = refl }));
-  numbers = λ json. absurd (text_json (sym text ∙ json));
-  none = λ _. none;
-}
-  where
-    text_json : ◌≡◌ {A = Format} Text Json → ⊥
-    text_json h = cc
+  pub lined_text : (lines : List LineAt) → manner.format ≡ Text → lines ≡ [] → IsLined rows manner analysed pending at_open findings lines
+  lined_text lines text none = record {
+    names =
+        subst (λ (f : Format). HaveLines (calls_in f (calls_named manner.reading analysed.groups analysed.recording findings ++ calls_at_opens manner.reading analysed.groups analysed.recording pending at_open)) lines) (sym text)
+        (subst (λ (ls : List LineAt). HaveLines [] ls) (sym none) (record { are_these = λ rank place. refl; in_order = refl }));
+    numbers = λ json. absurd (text_json (sym text ∙ json));
+    none = λ _. none;
+  }
+    where
+      text_json : ◌≡◌ {A = Format} Text Json → ⊥
+      text_json h = cc

@@ -15,4 +15,8 @@ pub mod CloseLemmas
 pub mod BegunLemmas
 pub mod ReportedLemmas
 pub mod SpotLemmas
+pub mod KnownLemmas
+pub mod SinkFitLemmas
+pub mod UnpendingLemmas
+pub mod PlainLemmas
 pub mod TableLemmas

@@ -1,17 +1,24 @@
 -- What `judge` reports: the report of a closed recording, and its verdict. Where the files of the journals are known, the
 -- recording is that of the run that they hold, or the fault is theirs.
-use Rattle.std.specs.Prelude.{◌≡◌, ℕ, Bool, false, not, Option, Ok, Err, List, [], length, map, codes, ⊤}
+use Rattle.std.specs.Prelude.{◌≡◌, ℕ, Bool, false, not, Option, Ok, Err, List, [], ◌++◌, length, map, codes, ⊤}
 use Rattle.std.specs.List.{filter}
 use Rattle.mpicall.specs.Device.{one_more, AppendsBeginning}
 use Rattle.mpigroup.specs.Groups.{Groups, ranks_of}
 use Rattle.callstore.specs.Recordings.{Lists, IsClosed}
-use Rattle.findings.specs.Findings.{findings_of}
+use Rattle.moves.specs.declared.reading.Reading.{Reading}
 use Rattle.findings.specs.declared.finding.Finding.{Finding}
 use Rattle.findings.specs.declared.finding.Finding.TheVariants.{Request}
-use Rattle.waitgraph.specs.Causes.{CauseView, AreCauses}
-use Rattle.waitgraph.specs.Verdicts.{IsVerdictOf}
+use Rattle.waitgraph.specs.Causes.{CauseView}
+use Rattle.waitgraph.specs.Pending.{Known as PendingKnown}
+use Rattle.waitgraph.specs.PendingCauses.{AreCausesBy}
+use Rattle.waitgraph.specs.PendingGraphs.{findings_by}
+use Rattle.waitgraph.specs.PendingHeld.{IsHeldBy}
+use Rattle.waitgraph.specs.PendingNeeds.{ListsAwaited}
+use Rattle.waitgraph.specs.PendingStays.{StaysPutBy}
+use Rattle.waitgraph.specs.PendingVerdicts.{IsVerdictBy}
+use Rattle.waitgraph.specs.declared.awaited.Awaited.{Awaited}
 use Rattle.waitgraph.specs.declared.verdict.Verdict.{Verdict}
-use Rattle.report.specs.Judged.{judged_of}
+use Rattle.report.specs.PendingReport.{pending_report}
 use Rattle.report.specs.declared.judged.Judged.{Judged}
 use Rattle.report.specs.declared.judged.LeftAt.{LeftAt}
 use Rattle.journals.specs.declared.limits.TheConstants.{MOST_RANKS}
@@ -20,13 +27,13 @@ use Rattle.closing.specs.Entry.{Choice}
 use Rattle.closing.specs.Freed.{starts_freed}
 use Rattle.closing.specs.Journals.{RankFault, run_of}
 use Rattle.closing.specs.Recording.{recording_of, calls_of, list_of}
-use Rattle.closing.specs.Recordings.{choice_in}
 use Rattle.closing.specs.Left.{Left, left_of}
 use Rattle.closing.specs.declared.choice.Calls.{Calls}
 use Rattle.closing.specs.declared.choice.Calls.TheVariants.{Strict, Went}
 use Rattle.closing.specs.declared.why.Why.{Why}
 use Rattle.closing.specs.declared.why.Why.TheVariants as why
 use Rattle.judging.specs.JournalTexts.{Known, AreKnown, IsFaultOfFiles}
+use Rattle.judging.specs.KnownCalls.{calls_at_opens, judged_choice, known_of}
 use Rattle.judging.specs.NamedCalls.{HaveLines, HaveNumbers, calls_in, calls_named, lines_of}
 use Rattle.judging.specs.declared.judge.JudgeFault.{JudgeFault}
 use Rattle.judging.specs.declared.judge.JudgeFault.TheVariants.{Read, Memory, Write}
@@ -58,6 +65,7 @@ words_of why.CannotBe = codes "cannot be"
 words_of why.Stopped = codes "stopped"
 words_of why.Aborted = codes "aborted"
 words_of why.Full = codes "full"
+words_of why.NotJudged = codes "not judged"
 words_of why.NoJournal = codes "no journal"
 
 -- at which line, and why, the list of a rank ends before its end
@@ -72,31 +80,37 @@ left_words it = record { rank = it.rank; line = it.line; words = words_of it.why
 abbrev pub left_said : LeftAt → LeftWords
 left_said it = record { rank = it.rank; line = it.line; words = it.why.now }
 
--- groups and lists are those of the run's recording, and what is said in addition is of it
-pub record IsRecordingOfRun (run : Run) (choice : Choice) (groups : Groups) (recording : Lists) (judged : Judged) : Type 0 where
+-- groups and lists are those of the run's recording, and what is known and said in addition is of it; each held rank
+-- stays where it stands, whether sinks are met or not, however pending calls come back, and whatever stands behind them
+pub record IsRecordingOfRun (run : Run) (choice : Choice) (groups : Groups) (recording : Lists) (pending : PendingKnown) (judged : Judged) : Type 0 where
   pub groups_are : groups ≡ (recording_of run choice).groups
   pub lists_are : recording ≡ map calls_of (recording_of run choice).lists
-  pub findings_are : judged.findings.now ≡ reported_by choice.calls (frees_start run choice) (findings_of groups recording)
+  pub known_are : pending ≡ known_of run choice
+  pub held_stay : (reading : Reading) (rank : ℕ) → IsHeldBy reading groups recording pending rank → StaysPutBy reading groups recording pending rank
+  pub findings_are : judged.findings.now ≡ reported_by choice.calls (frees_start run choice) (findings_by groups recording pending.sinks)
   pub left_is : map left_said judged.left.now ≡ map left_words (left_of (recording_of run choice).lists)
   pub lines_are : HaveNumbers (map lines_of (recording_of run choice).lists) judged.lines.now
 
 -- ---- Reports ----
 
--- by the manner's reading, report and verdict are those of a closed recording; where the files are known, they hold a
--- run, and the recording is that of the run
+-- by the manner's reading and by what is known of how lists go on, report and verdict are those of a closed recording;
+-- where the files are known, they hold a run, and the recording is that of the run
 pub record IsJudgedReport (known : Known) (manner : Manner) (verdict : Verdict) (report : List ℕ) : Type 0 where
   pub groups : Groups
   pub recording : Lists
   pub judged : Judged
   pub one_a_rank : length recording ≡ ranks_of groups
   pub closed : IsClosed recording
-  pub is_verdict : IsVerdictOf manner.reading groups recording verdict
+  pub pending : PendingKnown
+  pub is_verdict : IsVerdictBy manner.reading groups recording pending verdict
+  pub at_open : List (List Awaited)
+  pub are_awaited : ListsAwaited manner.reading groups recording pending at_open
   pub causes : List CauseView
-  pub are_causes : AreCauses manner.reading groups recording causes
-  pub is_text : report ≡ judged_of manner.format manner.reading groups recording verdict causes judged
-  pub names : HaveLines (calls_in manner.format (calls_named manner.reading groups recording judged.findings.now)) judged.lines.now
+  pub are_causes : AreCausesBy manner.reading groups recording pending causes
+  pub is_text : report ≡ pending_report manner.format manner.reading groups recording verdict pending.pending at_open causes judged
+  pub names : HaveLines (calls_in manner.format (calls_named manner.reading groups recording judged.findings.now ++ calls_at_opens manner.reading groups recording pending at_open)) judged.lines.now
   pub of_run : (first : List ℕ) (texts : ℕ → Option (List ℕ)) (run : Run) → AreKnown known (length run) first texts →
-      run_of first texts ≡ Ok run → IsRecordingOfRun run (choice_in manner.choice) groups recording judged
+      run_of first texts ≡ Ok run → IsRecordingOfRun run (judged_choice manner.choice) groups recording pending judged
   pub of_none_refused : (first : List ℕ) (texts : ℕ → Option (List ℕ)) (fault : RankFault) → AreKnown known MOST_RANKS first texts →
       run_of first texts ≡ Err fault → ⊥
 

@@ -1,6 +1,7 @@
 -- What nobody has to believe: these definitions are cited by proofs and private contracts alone.
 pub mod Closed
 pub mod Heads
+pub mod Known
 pub mod OneJournal
 pub mod Reported
 pub mod Spots

@@ -1,17 +1,20 @@
 //! The report of the recording that the journals of a run are.
 
-ghost use Rattle.std.specs.Prelude.{◌≡◌, ◌≤◌, ℕ, All, List, true, length, map, IfErr, IfOk, OnOk};
+ghost use Rattle.std.specs.Prelude.{◌≡◌, ◌≤◌, ◌++◌, ℕ, All, List, true, length, map, IfErr, IfOk, OnOk};
 ghost use Rattle.std.specs.Io.KnownBytes.{Appends};
 ghost use Rattle.callstore.specs.Recordings.{IsClosed};
-ghost use Rattle.waitgraph.specs.Graphs.{IsGraphOf};
+ghost use Rattle.waitgraph.specs.PendingGraphs.{IsGraphWith};
 ghost use Rattle.report.specs.declared.judged.TheConstants.{MOST_WORDS};
 ghost use Rattle.report.specs.declared.write.Format.TheVariants.{Json};
 ghost use Rattle.closing.specs.Numbers.{groups_of};
 ghost use Rattle.closing.specs.Recording.{recording_of};
 ghost use Rattle.closing.specs.Recordings.{choice_in};
-ghost use Rattle.closing.specs.Left.{left_of};
+ghost use Rattle.closing.specs.Left.{left_of, left_said as left_found};
 ghost use Rattle.lawful.specs.Laws.{IsRead};
 ghost use Rattle.judging.specs.Judging.{IsFaultOfJudge, IsJudgedReport, LeavesAt, left_said, left_words, words_of};
+ghost use Rattle.judging.specs.KnownCalls.{judged_choice, known_of};
+ghost use Rattle.judging.specs.WithoutPending.{WithoutPendingTheReportIsPlain};
+ghost use Rattle.judging.specs.inner.Known.{known_in};
 ghost use Rattle.judging.specs.inner.Reported.{IsLate, IsLined, IsReported, IsReportedOf, IsRunOf, fault_of_reading};
 ghost use Rattle.judging.specs.inner.Tables.{HasAllLines, HasTable, rows_of};
 ghost use Rattle.judging.specs.inner.Turns.{HasAll, IsDone, IsFresh};
@@ -19,12 +22,14 @@ ghost use Rattle.judging.specs.inner.Unwritten.{IsOfRecording, IsUnwritten};
 ghost use Rattle.judging.specs.declared.judge.JudgeFault.TheVariants.{Memory};
 
 use crate::head::head_text;
+use crate::known::{Known, known_of};
 use crate::read::{Journals, ReadFault, read_journals};
 use crate::reported::reported_findings;
 use crate::spots::lines_of;
 use crate::turns::{LineTable, Lists};
-use closing::choice::Choice;
+use closing::choice::{Choice, Unreported};
 use closing::recording::Recording;
+use closing::walk::Left;
 use closing::why::Why;
 use findings::finding::Finding;
 use gather::fault::Refusal;
@@ -34,7 +39,8 @@ use mpicall::device::Output;
 use mpigroup::fault::{HeadFault, ReadFault as HeadReadFault};
 use mpigroup::head::Head;
 use progress::tracker::Tracker;
-use report::judged::{Judged, LeftAt, LineAt, write_judged};
+use report::judged::{Judged, LeftAt, LineAt};
+use report::pending::{PendingRun, write_pending};
 use report::write::{Format, ReportFault};
 use std::alloc::{AllocError, AllocFailed, Global};
 use std::sync::Wait;
@@ -112,6 +118,16 @@ fn has_lines(format: Format) -> bool
     matches!(format, Format::Json)
 }
 
+/// As they are judged, lists go on behind receives whose messages aren't known.
+fn with_sinks(choice: Choice) -> Choice
+    ensures { choice_in result ≡ judged_choice choice }
+{
+    Choice {
+        unreported: Unreported::Sinks,
+        ..choice
+    }
+}
+
 /// The recording of the journals of a run, of which no list is made yet.
 fn lists_of<J: Journals>(
     alloc: Global,
@@ -120,7 +136,7 @@ fn lists_of<J: Journals>(
     wait: &impl Wait,
 ) -> Result<Lists, JudgeFault>
     ensures run { IfOk result (λ lists. IsRunOf (J.known journals.now) lists.recording.run) }
-    ensures choice { IfOk result (λ lists. lists.recording.choice ≡ choice_in manner.choice) }
+    ensures choice { IfOk result (λ lists. lists.recording.choice ≡ judged_choice manner.choice) }
     ensures fresh { IfOk result (λ lists. IsFresh lists.recording) }
     ensures table { IfOk result (λ lists. manner.format ≡ Json → HasTable lists) }
     ensures unwritten { IfErr result IsUnwritten }
@@ -130,7 +146,7 @@ fn lists_of<J: Journals>(
         Ok(journals) => journals,
         Err(fault) => return Err(of_reading(fault)),
     };
-    let recording = Recording::of(alloc, journals, manner.choice)?;
+    let recording = Recording::of(alloc, journals, with_sinks(manner.choice))?;
     let table = LineTable::new(alloc, recording.ranks(), has_lines(manner.format))?;
     Ok(Lists { recording, table })
 }
@@ -160,13 +176,17 @@ fn analyser_of(
     Ok(analyser)
 }
 
-/// Who waits for whom, and why.
-fn graph_of(alloc: Global, analyser: &Analyser) -> Result<Graph, JudgeFault>
-    requires { IsClosed analyser.now.recording }
-    ensures graph { IfOk result (IsGraphOf analyser.now.reading analyser.now.groups analyser.now.recording) }
+/// Who waits for whom, and why, by what is known.
+fn graph_of(alloc: Global, analyser: &Analyser, known: &Known) -> Result<Graph, JudgeFault>
+    ensures graph { IfOk result (IsGraphWith analyser.now.reading analyser.now.groups analyser.now.recording (known_in known.now)) }
     ensures fault { IfErr result (λ fault. fault ≡ Memory) }
 {
-    match Graph::of(alloc, analyser) {
+    match Graph::of_pending(
+        alloc,
+        analyser,
+        known.pending.as_slice(),
+        known.sinks.as_slice(),
+    ) {
         Ok(graph) => Ok(graph),
         Err(_) => Err(JudgeFault::Memory),
     }
@@ -187,11 +207,34 @@ fn why_text(why: Why) -> &'static str
         Why::Stopped => "stopped",
         Why::Aborted => "aborted",
         Why::Full => "full",
+        Why::NotJudged => "not judged",
         Why::NoJournal => "no journal",
     }
 }
 
-/// At which lines, and why, lists ended before their ends.
+fn left_at(rank: u16, left: Left) -> LeftAt
+    ensures short { length result.why.now ≤ MOST_WORDS }
+    ensures said { left_said result ≡ left_words (left_found rank left) }
+{
+    LeftAt {
+        rank,
+        line: left.line,
+        why: why_text(left.why),
+    }
+}
+
+/// Adds the entries of a rank that stand in no line of their own.
+fn add_left_out(all: &mut Vec<LeftAt>, rank: u16, left_out: &[Left]) -> Result<(), AllocError>
+    ensures short { OnOk result (All (λ one. length one.why.now ≤ MOST_WORDS) all.old.items → All (λ one. length one.why.now ≤ MOST_WORDS) all.new.items) }
+    ensures left { OnOk result (map left_said all.new.items ≡ map left_said all.old.items ++ map left_words (map (left_found rank) left_out.now)) }
+{
+    for left in left_out {
+        all.push(left_at(rank, *left))?;
+    }
+    Ok(())
+}
+
+/// At which lines, and why, lists ended before their ends, and entries stand in no line of their own.
 fn left_of(alloc: Global, recording: &Recording) -> Result<Vec<LeftAt>, AllocError>
     ensures short { IfOk result (λ all. All (λ one. length one.why.now ≤ MOST_WORDS) all.items) }
     ensures left { IfOk result (λ all. IsDone recording.now → map left_said all.items
@@ -199,13 +242,9 @@ fn left_of(alloc: Global, recording: &Recording) -> Result<Vec<LeftAt>, AllocErr
 {
     let mut all = Vec::new(alloc);
     for rank in 0..recording.ranks() {
+        add_left_out(&mut all, rank, recording.left_out(rank))?;
         if let Some(left) = recording.left(rank) {
-            let why = why_text(left.why);
-            all.push(LeftAt {
-                rank,
-                line: left.line,
-                why,
-            })?;
+            all.push(left_at(rank, left))?;
         }
     }
     Ok(all)
@@ -218,14 +257,15 @@ fn lines_in(
     analyser: &Analyser,
     graph: &Graph,
     findings: &[Finding],
+    known: &Known,
     manner: Manner,
 ) -> Result<Vec<LineAt>, AllocError>
     requires reading { analyser.now.reading ≡ manner.reading }
-    requires graph { IsGraphOf analyser.now.reading analyser.now.groups analyser.now.recording graph.now }
-    ensures { IfOk result (λ lines. IsLined (rows_of lists.now.table) manner analyser.now findings.now lines.items) }
+    requires graph { IsGraphWith analyser.now.reading analyser.now.groups analyser.now.recording (known_in known.now) graph.now }
+    ensures { IfOk result (λ lines. IsLined (rows_of lists.now.table) manner analyser.now (known_in known.now) graph.now.at_open findings.now lines.items) }
 {
     match manner.format {
-        Format::Json => lines_of(alloc, analyser, graph, findings, &lists.table),
+        Format::Json => lines_of(alloc, analyser, graph, known, findings, &lists.table),
         Format::Text => Ok(Vec::new(alloc)),
     }
 }
@@ -235,22 +275,28 @@ fn write_report<O: Output>(
     alloc: Global,
     analyser: &Analyser,
     graph: &Graph,
+    known: &Known,
     judged: &Judged<'_>,
     manner: Manner,
     out: &mut O,
 ) -> Result<Verdict, JudgeFault>
     requires reading { analyser.now.reading ≡ manner.reading }
     requires closed { IsClosed analyser.now.recording }
-    requires graph { IsGraphOf analyser.now.reading analyser.now.groups analyser.now.recording graph.now }
+    requires graph { IsGraphWith analyser.now.reading analyser.now.groups analyser.now.recording (known_in known.now) graph.now }
     requires short { All (λ one. length one.why.now ≤ MOST_WORDS) judged.now.left.now }
-    ensures written { IfOk result (λ verdict. (report : List ℕ) × IsReported manner.reading manner.format analyser.now.groups analyser.now.recording judged.now verdict report × Appends (O.written out.old) (O.written out.new) report) }
+    ensures written { IfOk result (λ verdict. (report : List ℕ) × IsReported manner.reading manner.format analyser.now.groups analyser.now.recording (known_in known.now) graph.now.at_open judged.now verdict report × Appends (O.written out.old) (O.written out.new) report) }
     ensures no_write_failed { OnOk result (O.failures out.new ≡ O.failures out.old) }
     ensures output { IfErr result (LeavesAt O.written O.failures out.old out.new) }
     ensures fault { IfErr result IsLate }
 {
     let verdict = graph.verdict();
     let _head = analyser.head();
-    match write_judged(alloc, analyser, graph, judged, manner.format, out) {
+    let run = PendingRun {
+        analyser,
+        graph,
+        pending: known.pending.as_slice(),
+    };
+    match write_pending(alloc, &run, judged, manner.format, out) {
         Ok(()) => Ok(verdict),
         Err(ReportFault::Memory) => Err(JudgeFault::Memory),
         Err(ReportFault::Write) => Err(JudgeFault::Write),
@@ -264,13 +310,14 @@ fn report<O: Output>(
     lists: &Lists,
     analyser: &Analyser,
     graph: &Graph,
+    known: &Known,
     manner: Manner,
     out: &mut O,
 ) -> Result<Verdict, JudgeFault>
     requires reading { analyser.now.reading ≡ manner.reading }
     requires closed { IsClosed analyser.now.recording }
-    requires graph { IsGraphOf analyser.now.reading analyser.now.groups analyser.now.recording graph.now }
-    ensures written { IfOk result (λ verdict. (report : List ℕ) × IsReportedOf lists.now.recording (rows_of lists.now.table) analyser.now manner verdict report × Appends (O.written out.old) (O.written out.new) report) }
+    requires graph { IsGraphWith analyser.now.reading analyser.now.groups analyser.now.recording (known_in known.now) graph.now }
+    ensures written { IfOk result (λ verdict. (report : List ℕ) × IsReportedOf lists.now.recording (rows_of lists.now.table) analyser.now (known_in known.now) manner verdict report × Appends (O.written out.old) (O.written out.new) report) }
     ensures no_write_failed { OnOk result (O.failures out.new ≡ O.failures out.old) }
     ensures output { IfErr result (LeavesAt O.written O.failures out.old out.new) }
     ensures fault { IfErr result IsLate }
@@ -278,13 +325,21 @@ fn report<O: Output>(
     let recording = &lists.recording;
     let findings = reported_findings(alloc, recording, manner.choice, graph.findings())?;
     let left = left_of(alloc, recording)?;
-    let lines = lines_in(alloc, lists, analyser, graph, findings.as_slice(), manner)?;
+    let lines = lines_in(
+        alloc,
+        lists,
+        analyser,
+        graph,
+        findings.as_slice(),
+        known,
+        manner,
+    )?;
     let judged = Judged {
         findings: findings.as_slice(),
         left: left.as_slice(),
         lines: lines.as_slice(),
     };
-    write_report(alloc, analyser, graph, &judged, manner, out)
+    write_report(alloc, analyser, graph, known, &judged, manner, out)
 }
 
 /// Judges the journals of a run, and writes the report of their recording. The tracker is handed the analyser
@@ -305,6 +360,12 @@ pub fn judge<J: Journals, O: Output>(
 {
     let mut lists = lists_of(alloc, journals, manner, wait)?;
     let analyser = analyser_of(alloc, &mut lists, manner.reading, tracker)?;
-    let graph = graph_of(alloc, &analyser)?;
-    report(alloc, &lists, &analyser, &graph, manner, out)
+    let known = known_of(alloc, &lists.recording)?;
+    let graph = graph_of(alloc, &analyser, &known)?;
+    report(alloc, &lists, &analyser, &graph, &known, manner, out)
 }
+
+/// Where no rank has a pending call and lists have no sinks, the report is that of the recording alone.
+pub fn without_pending_the_report_is_plain()
+    ensures { WithoutPendingTheReportIsPlain }
+{}

@@ -5,6 +5,7 @@
 pub mod close;
 mod head;
 pub mod judge;
+mod known;
 pub mod read;
 mod reported;
 mod spots;

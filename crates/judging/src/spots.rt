@@ -1,15 +1,21 @@
 //! The calls that a report names, each with the line of its entry in the journal.
 
-ghost use Rattle.std.specs.Prelude.{◌≡◌, ◌++◌, map, IfOk, OnOk};
+ghost use Rattle.std.specs.Prelude.{◌≡◌, ◌++◌, ℕ, map, slice_index, IfOk, OnOk};
 ghost use Rattle.std.specs.List.{flat_map};
 ghost use Rattle.std.specs.List.Sorted.{IsStrictlySortedBy};
-ghost use Rattle.waitgraph.specs.Graphs.{IsGraphOf};
+ghost use Rattle.moves.specs.Stands.{stands_of};
+ghost use Rattle.waitgraph.specs.PendingGraphs.{IsGraphWith};
+ghost use Rattle.waitgraph.specs.Stuck.{unmet_of};
+ghost use Rattle.waitgraph.specs.Waits.{needs_in};
+ghost use Rattle.judging.specs.KnownCalls.{calls_at_open, calls_at_opens, calls_awaited, calls_of_item};
 ghost use Rattle.judging.specs.NamedCalls.{HaveLines, HaveNumbers, call_at, calls_found, calls_named, calls_needed, calls_of_member, calls_of_stuck, calls_there, starts_of};
+ghost use Rattle.judging.specs.inner.Known.{known_in};
 ghost use Rattle.judging.specs.inner.Spots.{spot_cmp, with_call, with_calls};
 ghost use Rattle.judging.specs.inner.Tables.{line_of_spot, rows_of};
 
+use crate::known::Known;
 use crate::reported::Spot;
-use crate::turns::LineTable;
+use crate::turns::{LineTable, ranks_of};
 use callstore::request::completes;
 use findings::finding::Finding;
 use moves::analyser::Analyser;
@@ -17,7 +23,9 @@ use moves::need::{Need, stand_of};
 use report::judged::LineAt;
 use std::alloc::{AllocError, Global};
 use std::collections::BTreeSet;
+use waitgraph::awaited::Awaited;
 use waitgraph::graph::Graph;
+use waitgraph::pending::Item;
 
 /// Adds a call.
 fn add(spots: &mut BTreeSet<Spot>, rank: u16, place: u32) -> Result<(), AllocError>
@@ -83,7 +91,7 @@ fn add_stuck(
     graph: &Graph,
     rank: u16,
 ) -> Result<(), AllocError>
-    requires { IsGraphOf analyser.now.reading analyser.now.groups analyser.now.recording graph.now }
+    requires { (rank : ℕ) → needs_in graph.now.waits rank ≡ unmet_of analyser.now.reading analyser.now.groups analyser.now.recording rank }
     ensures { OnOk result (spots.new.keys ≡ with_calls spots.old.keys (calls_of_stuck analyser.now.reading analyser.now.groups analyser.now.recording rank)) }
 {
     analyser.stands_are_the_end();
@@ -100,11 +108,100 @@ fn add_all_stuck(
     graph: &Graph,
     ranks: &[u16],
 ) -> Result<(), AllocError>
-    requires { IsGraphOf analyser.now.reading analyser.now.groups analyser.now.recording graph.now }
+    requires { (rank : ℕ) → needs_in graph.now.waits rank ≡ unmet_of analyser.now.reading analyser.now.groups analyser.now.recording rank }
     ensures { OnOk result (spots.new.keys ≡ with_calls spots.old.keys (flat_map (calls_of_stuck analyser.now.reading analyser.now.groups analyser.now.recording) ranks.now)) }
 {
     for rank in ranks {
         add_stuck(spots, analyser, graph, *rank)?;
+    }
+    Ok(())
+}
+
+/// Adds what an item of a held rank's pending call waits for.
+fn add_awaited(spots: &mut BTreeSet<Spot>, awaited: &Awaited) -> Result<(), AllocError>
+    ensures { OnOk result (spots.new.keys ≡ with_calls spots.old.keys (calls_awaited awaited.now)) }
+{
+    match awaited {
+        Awaited::Call(need) => add_need(spots, need),
+        Awaited::Rank { .. } | Awaited::Nobody => Ok(()),
+    }
+}
+
+/// Adds what is awaited at an open.
+fn add_all_awaited(spots: &mut BTreeSet<Spot>, all: &[Awaited]) -> Result<(), AllocError>
+    ensures { OnOk result (spots.new.keys ≡ with_calls spots.old.keys (flat_map calls_awaited all.now)) }
+{
+    for awaited in all {
+        add_awaited(spots, awaited)?;
+    }
+    Ok(())
+}
+
+/// Adds the start of the request that an item is.
+fn add_item(
+    spots: &mut BTreeSet<Spot>,
+    analyser: &Analyser,
+    rank: u16,
+    item: &Item,
+) -> Result<(), AllocError>
+    ensures { OnOk result (spots.new.keys ≡ with_calls spots.old.keys (calls_of_item analyser.now.recording rank item.now)) }
+{
+    match *item {
+        Item::Request(number) => {
+            add_there(spots, rank, analyser.pairs().active_start(rank, number))
+        }
+        Item::Message(_) => Ok(()),
+    }
+}
+
+/// Adds the starts of the requests of a rank's pending call.
+fn add_items(
+    spots: &mut BTreeSet<Spot>,
+    analyser: &Analyser,
+    rank: u16,
+    items: &[Item],
+) -> Result<(), AllocError>
+    ensures { OnOk result (spots.new.keys ≡ with_calls spots.old.keys (flat_map (calls_of_item analyser.now.recording rank) items.now)) }
+{
+    for item in items {
+        add_item(spots, analyser, rank, item)?;
+    }
+    Ok(())
+}
+
+/// Adds what a report names of a rank, if this is held and stands at its open.
+fn add_at_open(
+    spots: &mut BTreeSet<Spot>,
+    analyser: &Analyser,
+    graph: &Graph,
+    known: &Known,
+    rank: u16,
+) -> Result<(), AllocError>
+    ensures { OnOk result (spots.new.keys ≡ with_calls spots.old.keys (calls_at_open analyser.now.recording (known_in known.now) graph.now.at_open rank
+        (slice_index (stands_of analyser.now.reading analyser.now.groups analyser.now.recording) rank))) }
+{
+    let awaits = graph.at_open(rank);
+    if awaits.is_empty() {
+        return Ok(());
+    }
+    analyser.stands_are_the_end();
+    add(spots, rank, stand_of(analyser.stands(), rank))?;
+    add_all_awaited(spots, awaits)?;
+    add_items(spots, analyser, rank, known.items(rank))
+}
+
+/// Adds what a report names of the held ranks that stand at their opens.
+fn add_all_at_open(
+    spots: &mut BTreeSet<Spot>,
+    analyser: &Analyser,
+    graph: &Graph,
+    known: &Known,
+) -> Result<(), AllocError>
+    ensures { OnOk result (spots.new.keys ≡ with_calls spots.old.keys
+        (calls_at_opens analyser.now.reading analyser.now.groups analyser.now.recording (known_in known.now) graph.now.at_open)) }
+{
+    for rank in 0..ranks_of(analyser) {
+        add_at_open(spots, analyser, graph, known, rank)?;
     }
     Ok(())
 }
@@ -205,15 +302,18 @@ pub(crate) fn lines_of(
     alloc: Global,
     analyser: &Analyser,
     graph: &Graph,
+    known: &Known,
     findings: &[Finding],
     table: &LineTable,
 ) -> Result<Vec<LineAt>, AllocError>
-    requires { IsGraphOf analyser.now.reading analyser.now.groups analyser.now.recording graph.now }
-    ensures names { IfOk result (λ lines. HaveLines (calls_named analyser.now.reading analyser.now.groups analyser.now.recording findings.now) lines.items) }
+    requires { IsGraphWith analyser.now.reading analyser.now.groups analyser.now.recording (known_in known.now) graph.now }
+    ensures names { IfOk result (λ lines. HaveLines (calls_named analyser.now.reading analyser.now.groups analyser.now.recording findings.now
+        ++ calls_at_opens analyser.now.reading analyser.now.groups analyser.now.recording (known_in known.now) graph.now.at_open) lines.items) }
     ensures numbers { IfOk result (λ lines. HaveNumbers (rows_of table.now) lines.items) }
 {
     let mut spots = BTreeSet::new(alloc);
     add_all_stuck(&mut spots, analyser, graph, graph.stuck())?;
     add_findings(&mut spots, analyser, findings)?;
+    add_all_at_open(&mut spots, analyser, graph, known)?;
     lines_at(alloc, &spots, table)
 }

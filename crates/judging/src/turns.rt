@@ -87,7 +87,7 @@ pub(crate) struct Lists {
 }
 
 /// How many ranks an analyser has.
-fn ranks_of(analyser: &Analyser) -> u16
+pub(crate) fn ranks_of(analyser: &Analyser) -> u16
     ensures { result ≡ length analyser.now.recording }
 {
     analyser.head().ranks()

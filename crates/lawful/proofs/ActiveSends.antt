@@ -4,7 +4,7 @@ use Rattle.std.specs.Prelude.{⊤}
 use Rattle.std.proofs.lemmas.Bool.{cases_Bool, false≢true}
 use Rattle.std.proofs.lemmas.Option.{none-some, same_Some}
 use Rattle.mpicall.specs.declared.call.Call.{Call}
-use Rattle.closing.specs.Steps.{Id, Own, Whole, ReceiveHalf, Progress, Step, Does, Starts, WaitsForAll, WaitsForOne, PutsOff, WaitsForLate, same_id, number_in, without, without_all, put_number, numbers_of, has_number, least_free, wait_one, after_step, after_steps}
+use Rattle.closing.specs.Steps.{Id, Own, Whole, ReceiveHalf, Sink, Progress, Step, Does, Starts, WaitsForAll, WaitsForOne, PutsOff, WaitsForLate, same_id, number_in, without, without_all, put_number, numbers_of, has_number, least_free, wait_one, after_step, after_steps}
 use Rattle.lawful.proofs.RequestLemmas.{numbered, without_has, least_is_free}
 
 -- ---- Numbers that no two have ----
@@ -20,7 +20,7 @@ none_without number active other none = without_has number active other ∙ eith
     either true c none = refl
     either false c none = none
 
-distinct_without : (number : ℕ) (active : List (Id × ℕ)) → Distinct active → Distinct (without number active)
+pub distinct_without : (number : ℕ) (active : List (Id × ℕ)) → Distinct active → Distinct (without number active)
 distinct_without number [] all = tt
 distinct_without number (first ∷ active) all =
     elim (cases_Bool (first.1 == number)) [
@@ -36,11 +36,13 @@ same_own : (id : Id) (request : ℕ) → same_id id (Own request) ≡ true → i
 same_own (Own other) request h = ap (λ (n : ℕ). Own n) (eqb-true other request h)
 same_own (Whole line) request h = absurd (false≢true h)
 same_own (ReceiveHalf line) request h = absurd (false≢true h)
+same_own (Sink own wanted is_known) request h = absurd (false≢true h)
 
 other_way : (id : Id) (request : ℕ) → same_id (Own request) id ≡ true → same_id id (Own request) ≡ true
 other_way (Own other) request h = eq-eqb other request (sym (eqb-true request other h))
 other_way (Whole line) request h = absurd (false≢true h)
 other_way (ReceiveHalf line) request h = absurd (false≢true h)
+other_way (Sink own wanted is_known) request h = absurd (false≢true h)
 
 -- the request with a number is the only one
 one_has : (active : List (Id × ℕ)) (id : Id) (request number : ℕ) → Distinct active → number_in active (Own request) ≡ Some number → number_in active id ≡ Some number → same_id id (Own request) ≡ true

@@ -18,13 +18,15 @@ use Rattle.closing.specs.Numbers.{groups_of, number_of, rank_in, preface_split, 
 use Rattle.closing.specs.Steps.{Written, Progress, WaitsForLate, after_steps}
 use Rattle.closing.specs.Endings.{breaks_off, can_be, first_of, is_unknown, is_unreported, lacks_number, why_at}
 use Rattle.closing.specs.Entry.{Choice, steps_of}
-use Rattle.closing.specs.Recording.{Listed, Outcome, GoesOn, Ends, is_end, steps_before, outcome_by, outcome_of, go_on, list_from, progress_first, whole_list, most_records, line_of, cut, without_journal, list_of, calls_of}
+use Rattle.closing.specs.Recording.{Listed, is_end, steps_before, outcome_by, outcome_in, go_on, list_from, progress_first, whole_list, most_records, line_of, cut, without_journal, list_of, calls_of}
+use Rattle.closing.specs.Sinks.{Outcome, GoesOn, Ends}
 use Rattle.closing.specs.declared.why.Why.{Why}
 use Rattle.closing.specs.declared.why.Why.TheVariants.{NeverCameBack, NeverReported, Failed, NoNumber, CannotBe, TooLong}
 use Rattle.lawful.proofs.StepLemmas.{calls_in, plain_calls}
 use Rattle.lawful.proofs.ListLemmas.{list_of_fits}
 use Rattle.lawful.proofs.PassLemmas.{AreSteps, AllCalls, PassWaits, calls_append, calls_take, steps_pass}
-use Rattle.lawful.proofs.NameLemmas.{Names, steps_names}
+use Rattle.lawful.proofs.NameLemmas.{Names, sinks_name, steps_names}
+use Rattle.lawful.proofs.SinkCases.{by_lists, in_passes}
 
 -- ---- What can be ----
 
@@ -69,6 +71,11 @@ outcome_names run choice placed None e = end_names run choice placed (is_end pla
 outcome_names run choice placed (Some why) e =
     before_names run choice placed placed.called why (λ h. can_at run placed (rw e h))
 
+outcome_in_names : (run : Run) (choice : Choice) (records : List Written) (placed : Placed) → PassOutcome (Names (groups_of run)) (outcome_in run choice records placed)
+outcome_in_names run choice records placed =
+    in_passes run choice records placed (PassOutcome (Names (groups_of run))) (outcome_names run choice placed (why_at run placed) refl)
+    (by_lists run placed (AreSteps (Names (groups_of run))) (PassOutcome (Names (groups_of run))) (λ steps names awaits. names) (λ steps why names. names) (sinks_name run placed))
+
 on_outcome : (P : Call → Type 0) (progress : Progress) (line : ℕ) (outcome : Outcome) (others : Progress → Listed) → PassWaits P → PassOutcome P outcome → AllCalls P (calls_in progress) → ((new : Progress) → AllCalls P (calls_in new) → AllCalls P (map (λ one. one.call) (others new).records)) → AllCalls P (map (λ one. one.call) (go_on progress line outcome others).records)
 on_outcome P progress line (GoesOn steps) others waits passes all rest =
     rest (after_steps progress line steps) (steps_pass P progress line steps waits passes all)
@@ -84,8 +91,8 @@ waits_name run = record {
 list_names : (run : Run) (choice : Choice) (entries : List Placed) (progress : Progress) → AllCalls (Names (groups_of run)) (calls_in progress) → AllCalls (Names (groups_of run)) (map (λ one. one.call) (list_from run choice progress entries).records)
 list_names run choice [] progress all = all
 list_names run choice (placed ∷ others) progress all =
-    on_outcome (Names (groups_of run)) progress placed.line (outcome_of run choice placed) (λ new. list_from run choice new others) (waits_name run)
-    (outcome_names run choice placed (why_at run placed) refl) all (λ new every. list_names run choice others new every)
+    on_outcome (Names (groups_of run)) progress placed.line (outcome_in run choice progress.records placed) (λ new. list_from run choice new others) (waits_name run)
+    (outcome_in_names run choice progress.records placed) all (λ new every. list_names run choice others new every)
 
 -- ---- The preface ----
 
@@ -120,7 +127,7 @@ either P false first other is_first is_other = is_other
 cut_passes : (P : Call → Type 0) (it : Listed) → AllCalls P (map (λ one. one.call) it.records) → AllCalls P (map (λ one. one.call) (cut it).records)
 cut_passes P it all =
     either (λ (list : Listed). AllCalls P (map (λ one. one.call) list.records)) (nat_lt (length it.records) most_records) it
-    (record { records = take (most_records - 1) it.records; end = Open; line = line_of (slice_get it.records (most_records - 1)); why = Some TooLong })
+    (record { records = take (most_records - 1) it.records; end = Open; line = line_of (slice_get it.records (most_records - 1)); why = Some TooLong; active = it.active })
     all
     (subst (λ (calls : List Call). AllCalls P calls) (take-map (λ (one : Written). one.call) (most_records - 1) it.records)
     (calls_take P (most_records - 1) (map (λ one. one.call) it.records) all))

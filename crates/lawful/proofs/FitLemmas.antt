@@ -15,15 +15,16 @@ use Rattle.journals.specs.declared.word.ReportWord.TheVariants as report
 use Rattle.closing.specs.RankComms.{RankComms, comms_first, after_line}
 use Rattle.closing.specs.Entries.{Run, Placed, journal_at, lines_in, entries_from, entries_in, entries_at}
 use Rattle.closing.specs.Steps.{Progress, after_steps}
-use Rattle.closing.specs.Endings.{size_at, why_at}
+use Rattle.closing.specs.Endings.{size_at}
 use Rattle.closing.specs.Entry.{Choice}
-use Rattle.closing.specs.Recording.{Outcome, GoesOn, Ends, is_end, outcome_of, progress_first}
+use Rattle.closing.specs.Recording.{is_end, outcome_in, progress_first}
+use Rattle.closing.specs.Sinks.{Outcome, GoesOn, Ends}
 use Rattle.lawful.proofs.RightLines.{AreRight, IsRight}
 use Rattle.lawful.proofs.NewNumbers.{IsFree, IsNew, StartsNew, free_before, called_new}
-use Rattle.lawful.proofs.NewSteps.{NewSteps, NoneActive, StaysFree, steps_fit, outcome_new}
+use Rattle.lawful.proofs.NewSteps.{NewSteps, NoneActive, StaysFree, steps_fit, outcome_in_new}
 use Rattle.lawful.proofs.RunFacts.{right_of_rank}
 use Rattle.lawful.proofs.RunFull.{RunFull, run_full, journal_at_full}
-use Rattle.lawful.proofs.RangedLists.{EntryFull, EntriesFull, entries_full, OutcomeOk, outcome_ok, preface_in}
+use Rattle.lawful.proofs.RangedLists.{EntryFull, EntriesFull, entries_full, OutcomeOk, outcome_in_ok, preface_in}
 use Rattle.lawful.proofs.FullFacts.{LinesFull}
 use Rattle.lawful.proofs.JournalEnds.{OnlyLastEnds, only_last}
 use Rattle.lawful.proofs.OutcomesOnce.{once_more, lines_formed}
@@ -46,8 +47,8 @@ outcome_fits Free Left progress line (Ends steps end why) others ok new none res
 
 entry_fits : (Free Left : ℕ → Type 0) (run : Run) (choice : Choice) (placed : Placed) (others : List Placed) (progress : Progress) → RunFull run → EntryFull run placed → StaysFree Free Left → StartsNew (IsNew Free Left) placed.called → NoneActive Free progress.active → ((next : Progress) → NoneActive Left next.active → EntriesFit run choice next others) → EntriesFit run choice progress (placed ∷ others)
 entry_fits Free Left run choice placed others progress full entry le new none rest =
-    outcome_fits Free Left progress placed.line (outcome_of run choice placed) (λ after. EntriesFit run choice after others)
-    (outcome_ok run choice placed (why_at run placed) refl full entry) (outcome_new Free Left run choice placed (why_at run placed) le new) none rest
+    outcome_fits Free Left progress placed.line (outcome_in run choice progress.records placed) (λ after. EntriesFit run choice after others)
+    (outcome_in_ok run choice progress.records placed full entry) (outcome_in_new Free Left run choice progress.records placed le new) none rest
 
 put_fits : (run : Run) (choice : Choice) (rank : ℕ) (journal : Journal) (number : ℕ) (comms : RankComms) (before : List Line) (word : Word) (fields : List Field) (lines : List Line) (progress : Progress) → RunFull run → IsRight before (record { word = word; fields = fields }) → EntriesFull run (entries_from rank journal number comms (record { word = word; fields = fields } ∷ lines)) → NoneActive (IsFree before) progress.active → ((next : Progress) → EntriesFull run (entries_from rank journal (number + 1) (after_line comms (record { word = word; fields = fields })) lines) → NoneActive (IsFree (before ++ record { word = word; fields = fields } ∷ [])) next.active → EntriesFit run choice next (entries_from rank journal (number + 1) (after_line comms (record { word = word; fields = fields })) lines)) → EntriesFit run choice progress (entries_from rank journal number comms (record { word = word; fields = fields } ∷ lines))
 put_fits run choice rank journal number comms before (Call word) fields lines progress full right all none rest =

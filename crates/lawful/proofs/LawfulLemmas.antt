@@ -89,7 +89,7 @@ hold_if run rank false first other is_first is_other = is_other
 cut_holds : (run : Run) (rank : ℕ) (it : Listed) → RecordsHold run rank it → RecordsHold run rank (cut it)
 cut_holds run rank it all =
     hold_if run rank (nat_lt (length it.records) most_records) it
-    (record { records = take (most_records - 1) it.records; end = Open; line = line_of (slice_get it.records (most_records - 1)); why = Some TooLong }) all
+    (record { records = take (most_records - 1) it.records; end = Open; line = line_of (slice_get it.records (most_records - 1)); why = Some TooLong; active = it.active }) all
     (subst (λ (calls : List Call). AllHold (groups_of run) rank [] calls) (take-map (λ (one : Written). one.call) (most_records - 1) it.records)
     (hold_take (groups_of run) rank (most_records - 1) [] (map (λ one. one.call) it.records) all))
 

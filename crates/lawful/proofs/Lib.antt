@@ -18,6 +18,7 @@ pub mod SafeLemmas
 pub mod MakerLemmas
 pub mod EntryLemmas
 pub mod CalledLemmas
+pub mod SinkCases
 pub mod WalkLemmas
 pub mod LawfulLemmas
 pub mod ReadLemmas
@@ -33,6 +34,11 @@ pub mod RangedTable
 pub mod RangedLists
 pub mod HeadTexts
 pub mod SameLemmas
+pub mod NoSinks
+pub mod SinkPairs
+pub mod SinksKept
+pub mod SinksApart
+pub mod SinkLaws
 pub mod EndLemmas
 pub mod EndWords
 pub mod RightLines

@@ -4,20 +4,26 @@ use Rattle.std.specs.Prelude.{nat_lt, is_none, slice_get}
 use Rattle.std.proofs.lemmas.List.{take-map}
 use Rattle.mpicall.specs.Ending.{ends_list}
 use Rattle.mpicall.specs.declared.call.Call.{Call}
-use Rattle.mpicall.specs.declared.call.Call.TheVariants.{Split, Finalize, Open}
+use Rattle.mpicall.specs.declared.call.Call.TheVariants.{Irecv, Split, Finalize, Open}
+use Rattle.mpicall.specs.declared.call.Mode.TheVariants.{Standard}
+use Rattle.mpicall.specs.declared.call.Peer.TheVariants as peer
 use Rattle.closing.specs.Called.{Called, StartsExchange}
 use Rattle.closing.specs.Keys.{Key, has_member}
 use Rattle.closing.specs.Entries.{Run, Placed, journal_at, entries_at}
 use Rattle.closing.specs.Numbers.{number_of, rank_in, preface_split, preface_lines, preface_of}
-use Rattle.closing.specs.Steps.{Written, Progress, Step, WaitsForLate, after_steps}
+use Rattle.closing.specs.Reported.{is_gone}
+use Rattle.closing.specs.Steps.{Own, Written, Progress, Step, WaitsForLate, after_steps}
 use Rattle.closing.specs.Endings.{why_at}
 use Rattle.closing.specs.Entry.{Choice, steps_of}
-use Rattle.closing.specs.Recording.{Listed, Outcome, GoesOn, Ends, is_end, steps_before, outcome_by, outcome_of, go_on, list_from, progress_first, whole_list, most_records, line_of, cut, without_journal, list_of}
+use Rattle.closing.specs.Recording.{Listed, is_end, steps_before, outcome_by, outcome_in, go_on, list_from, progress_first, whole_list, most_records, line_of, cut, without_journal, list_of}
+use Rattle.closing.specs.Sinks.{Outcome, GoesOn, Ends, sinks, starts_half}
+use Rattle.closing.specs.declared.pending.Wanted.{Wanted}
 use Rattle.closing.specs.declared.why.Why.{Why}
 use Rattle.closing.specs.declared.why.Why.TheVariants.{NeverReported, TooLong}
-use Rattle.lawful.proofs.RequestLemmas.{AreActive, IsPlain, AllFit, plain_keeps, plain_fits}
+use Rattle.lawful.proofs.RequestLemmas.{AreActive, IsPlain, IsStart, AllFit, plain_keeps, plain_fits}
 use Rattle.lawful.proofs.StepLemmas.{AreSaid, calls_in, plain_calls, fit_append, steps_add}
-use Rattle.lawful.proofs.TableLemmas.{plain_if, steps_said}
+use Rattle.lawful.proofs.TableLemmas.{plain_if, said_append, said_if, send_starts, steps_said}
+use Rattle.lawful.proofs.SinkCases.{PassLists, by_lists, in_passes}
 
 -- ---- The preface ----
 
@@ -60,7 +66,7 @@ outcome_fits : (progress : Progress) (line : ℕ) (outcome : Outcome) (others : 
 outcome_fits progress line (GoesOn steps) others said fit rest = rest (after_steps progress line steps) (steps_fit progress line steps said fit)
 outcome_fits progress line (Ends steps end why) others said fit rest = ((steps_fit progress line steps said.0 fit).0, said.1)
 
-before_said : (run : Run) (choice : Choice) (placed : Placed) (it : Called) (why : Why) → AreSaid (steps_before run choice placed it why)
+pub before_said : (run : Run) (choice : Choice) (placed : Placed) (it : Called) (why : Why) → AreSaid (steps_before run choice placed it why)
 before_said run choice placed (StartsExchange request received sent awaited) NeverReported = steps_said run choice placed
 before_said run choice placed it why = tt
 
@@ -72,10 +78,29 @@ outcome_said : (run : Run) (choice : Choice) (placed : Placed) (why : Option Why
 outcome_said run choice placed (Some why) = (before_said run choice placed placed.called why, refl)
 outcome_said run choice placed None = end_said run choice placed (is_end placed.called)
 
+sink_starts : (wanted : Wanted) (number : ℕ) → IsStart number (Irecv number wanted.comm peer.Null 0)
+sink_starts wanted number = record { starts_it = refl; names_none = refl; completes_none = refl; goes_on = refl }
+
+pub sinks_said : (run : Run) (placed : Placed) → PassLists run placed AreSaid
+sinks_said run placed = record {
+  nothing = tt;
+  alone = λ wanted is own. (sink_starts wanted, tt);
+  both = λ wanted is sent awaited called. (send_starts Standard wanted.comm sent, (sink_starts wanted, tt));
+  halves = λ wanted is request received sent awaited called.
+      said_append (if is_gone placed.journal.lines request then [] else starts_half wanted (Own request) sent ∷ []) (sinks placed wanted (Some received) ∷ [])
+      (said_if (is_gone placed.journal.lines request) [] (starts_half wanted (Own request) sent ∷ []) tt (send_starts Standard wanted.comm sent, tt))
+      (sink_starts wanted, tt);
+}
+
+outcome_in_said : (run : Run) (choice : Choice) (records : List Written) (placed : Placed) → IsSaidOutcome (outcome_in run choice records placed)
+outcome_in_said run choice records placed =
+    in_passes run choice records placed IsSaidOutcome (outcome_said run choice placed (why_at run placed))
+    (by_lists run placed AreSaid IsSaidOutcome (λ steps said awaits. said) (λ steps why said. (said, refl)) (sinks_said run placed))
+
 list_fits : (run : Run) (choice : Choice) (entries : List Placed) (progress : Progress) → HasFit progress → FitsAll (list_from run choice progress entries)
 list_fits run choice [] progress fit = (fit.0, refl)
 list_fits run choice (placed ∷ others) progress fit =
-    outcome_fits progress placed.line (outcome_of run choice placed) _ (outcome_said run choice placed (why_at run placed)) fit
+    outcome_fits progress placed.line (outcome_in run choice progress.records placed) _ (outcome_in_said run choice progress.records placed) fit
     (λ new new_fit. list_fits run choice others new new_fit)
 
 -- ---- Lists ----
@@ -105,6 +130,7 @@ shorter it = record {
   end = Open;
   line = line_of (slice_get it.records (most_records - 1));
   why = Some TooLong;
+  active = it.active;
 }
 
 cut_fits : (it : Listed) → FitsAll it → FitsAll (cut it)

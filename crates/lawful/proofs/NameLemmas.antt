@@ -4,7 +4,7 @@ use Rattle.std.specs.Prelude.{nat_lt, slice_get}
 use Rattle.std.specs.Option.{option_and_then, option_map, option_map_or}
 use Rattle.std.proofs.lemmas.Bool.{false≢true}
 use Rattle.std.proofs.lemmas.List.Quantifiers.{position-Some}
-use Rattle.std.proofs.lemmas.Option.{none-some, slice_get-map, slice_get-get_or}
+use Rattle.std.proofs.lemmas.Option.{none-some, same_Some, slice_get-map, slice_get-get_or}
 use Rattle.mpicall.specs.declared.call.Call.{Call}
 use Rattle.mpicall.specs.declared.call.Call.TheVariants.{Coll, Dup, Split}
 use Rattle.mpicall.specs.declared.call.Kind.{Kind}
@@ -30,7 +30,9 @@ use Rattle.closing.specs.Steps.{Id, Own, Whole, ReceiveHalf, Does, Starts}
 use Rattle.closing.specs.Endings.{awaited_can_be, sends_can_be, sent_can_be, awaited_at, can_be, size_at, number_at}
 use Rattle.closing.specs.Entry.{Here, peer, send, start_send, receive, start_receive, exchange, probe, start_collective, root_in, kind_of, does, does_both, starts, does_collective, starts_collective, unless_past, on_comm, Choice, colour_of, parent_group, parent_rank, brings, split_key, giving_line, bare_line, maker_by, passes_tests, pass_test, wait_for_all, wait_for_one, wait_for_any, ids_of, chosen, on_none, is_past, here_at, steps_by, steps_of}
 use Rattle.lawful.proofs.KeyLemmas.{and_parts, same_key_is_equal}
+use Rattle.closing.specs.declared.pending.Wanted.{Wanted}
 use Rattle.lawful.proofs.PassLemmas.{AreSteps, steps_if, steps_append, steps_or, steps_unless}
+use Rattle.lawful.proofs.SinkCases.{IsUnsure, PassCalls, PassLists, half_sent, calls_pass, sound_is}
 
 -- ---- The group of a number ----
 
@@ -281,6 +283,43 @@ steps_by_names run choice placed (Some number) is can =
     (maker_names run placed number group (key_made run placed) (option_and_then (number_of run) (key_made run placed)) numbered.group)
     (subst (λ (n : ℕ). sends_can_be n placed.called ≡ true) size parts.0)
     (λ it known. message_fits group (awaited_at placed) it (subst (λ (n : ℕ). option_map_or (awaited_can_be n) (awaited_at placed) true ≡ true) size parts.1) known)
+
+-- what an exchange sends can be
+half_fits : (group : List ℕ) (it : Called) (sent : Sent) → half_sent it ≡ Some sent → sends_can_be (length group) it ≡ true → FitsSent group sent
+half_fits group (Exchanges one awaited) sent h fits = subst (λ (s : Sent). FitsSent group s) (same_Some one sent h) fits
+half_fits group (StartsExchange request received one awaited) sent h fits = subst (λ (s : Sent). FitsSent group s) (same_Some one sent h) fits
+half_fits group _ sent h fits = absurd (none-some sent h)
+
+-- the group of an entry whose message may be a sink's
+pub record IsOnGroup (run : Run) (placed : Placed) (wanted : Wanted) : Type 0 where
+  pub key : Key
+  pub is_key : named_key placed ≡ Some key
+  pub has : HasGroup (groups_of run) wanted.comm (group_of_key (length run) key)
+  pub half : (sent : Sent) → half_sent placed.called ≡ Some sent → FitsSent (group_of_key (length run) key) sent
+
+pub on_group : (run : Run) (placed : Placed) (wanted : Wanted) → IsUnsure run placed wanted → IsOnGroup run placed wanted
+on_group run placed wanted is =
+    let numbered = numbered_by run (named_key placed) wanted.comm is.number in
+    let group = group_of_key (length run) numbered.key in
+    let size : size_at run placed ≡ length group = ap (λ (o : Option Key). option_map_or (λ k. length (group_of_key (length run) k)) o 0) numbered.is_key in
+    let parts = and_parts (sends_can_be (size_at run placed) placed.called) (option_map_or (awaited_can_be (size_at run placed)) (awaited_at placed) true) (sound_is run placed is.sound).can in
+    record {
+      key = numbered.key;
+      is_key = numbered.is_key;
+      has = numbered.group;
+      half = λ sent h. half_fits group placed.called sent h (subst (λ (n : ℕ). sends_can_be n placed.called ≡ true) size parts.0);
+    }
+
+sink_names : (run : Run) (placed : Placed) (wanted : Wanted) → IsUnsure run placed wanted → PassCalls (Names (groups_of run)) placed wanted
+sink_names run placed wanted is =
+    let on = on_group run placed wanted is in
+    record {
+      sink = λ number. record { comm_is = rw on.has.is refl; peers_are = refl };
+      half = λ sent h number. start_send_names (groups_of run) wanted.comm (group_of_key (length run) on.key) sent on.has (on.half sent h) Standard number;
+    }
+
+pub sinks_name : (run : Run) (placed : Placed) → PassLists run placed (AreSteps (Names (groups_of run)))
+sinks_name run placed = calls_pass (Names (groups_of run)) run placed (λ wanted is. sink_names run placed wanted is)
 
 pub steps_names : (run : Run) (choice : Choice) (placed : Placed) → can_be run placed ≡ true → AreSteps (Names (groups_of run)) (steps_of run choice placed)
 steps_names run choice placed can = steps_by_names run choice placed (number_at run placed) refl can

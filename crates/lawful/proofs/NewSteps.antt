@@ -1,18 +1,20 @@
 -- Steps that start requests of new numbers: each record can be made, and no request that it starts is active.
-use Rattle.std.proofs.Common.{◌≡◌, ℕ, ◌==◌, Bool, true, false, Option, Some, None, if◌then◌else◌, List, [], ◌∷◌, ◌++◌, refl, sym, inl, inr}
+use Rattle.std.proofs.Common.{◌≡◌, ℕ, ◌==◌, Bool, true, false, Option, Some, None, if◌then◌else◌, List, [], ◌∷◌, ◌++◌, refl, sym, subst, inl, inr}
 use Rattle.std.specs.Option.{option_map_or}
 use Rattle.std.proofs.lemmas.Bool.{cases_Bool}
 use Rattle.std.proofs.lemmas.Option.{none-some}
 use Rattle.mpicall.specs.declared.call.Call.{Call}
 use Rattle.mpicall.specs.declared.call.Mode.TheVariants.{Standard}
 use Rattle.mpicall.specs.declared.call.Kind.TheVariants as kind
-use Rattle.closing.specs.Called.{Called, Sent, Sends, StartsSend, Receives, StartsReceive, Exchanges, StartsExchange, Probes, ProbesMatching, Collects, StartsCollective, Duplicates, StartsDuplicate, Splits, Makes, MakesOfGroup}
+use Rattle.closing.specs.Called.{Called, Sent, Awaited, Sends, StartsSend, Receives, StartsReceive, Exchanges, StartsExchange, Probes, ProbesMatching, Collects, StartsCollective, Duplicates, StartsDuplicate, Splits, Makes, MakesOfGroup}
 use Rattle.closing.specs.Entries.{Run, Placed}
 use Rattle.closing.specs.Reported.{Message, is_gone}
-use Rattle.closing.specs.Steps.{Id, Own, Whole, ReceiveHalf, Progress, Step, Does, Starts, WaitsForAll, WaitsForOne, PutsOff, WaitsForLate, same_id, number_in, without, without_all, numbers_of, wait_one, after_step, after_steps}
-use Rattle.closing.specs.Endings.{number_at}
+use Rattle.closing.specs.Steps.{Id, Own, Whole, ReceiveHalf, Sink, Written, Progress, Step, Does, Starts, WaitsForAll, WaitsForOne, PutsOff, WaitsForLate, same_id, number_in, without, without_all, numbers_of, wait_one, after_step, after_steps}
+use Rattle.closing.specs.Endings.{number_at, why_at}
 use Rattle.closing.specs.Entry.{Choice, Here, send, start_send, receive, start_receive, exchange, probe, start_collective, kind_of, is_past, here_at, does, does_both, starts, knowing, unless_past, on_comm, on_none, steps_by, steps_of}
-use Rattle.closing.specs.Recording.{Outcome, GoesOn, is_end, steps_before, outcome_by}
+use Rattle.closing.specs.Recording.{is_end, steps_before, outcome_by, outcome_in}
+use Rattle.closing.specs.Sinks.{Outcome, GoesOn, sinks, starts_half}
+use Rattle.closing.specs.declared.pending.Wanted.{Wanted}
 use Rattle.closing.specs.declared.why.Why.{Why}
 use Rattle.closing.specs.declared.why.Why.TheVariants.{NeverReported}
 use Rattle.lawful.proofs.StepLemmas.{AreSaid}
@@ -20,6 +22,7 @@ use Rattle.lawful.proofs.PassLemmas.{AreSteps}
 use Rattle.lawful.proofs.RangeLemmas.{Ranged}
 use Rattle.lawful.proofs.NameLemmas.{none_names}
 use Rattle.lawful.proofs.NewNumbers.{IsNew, StartsNew}
+use Rattle.lawful.proofs.SinkCases.{PassLists, by_lists, in_passes, started_halves}
 use Rattle.closing.specs.Fit.{AllFit, steps_in}
 
 -- ---- Steps whose own requests are new ----
@@ -76,6 +79,9 @@ steps_fit Free Left progress line (Starts (Whole own) call ∷ steps) said are n
 steps_fit Free Left progress line (Starts (ReceiveHalf own) call ∷ steps) said are new none =
     let rest = steps_fit Free Left (after_step progress line (Starts (ReceiveHalf own) call)) line steps said.1 are.1 new none in
     ((are.0 0 (rw (said.0 0).starts_it refl), rest.0), rest.1)
+steps_fit Free Left progress line (Starts (Sink own wanted is_known) call ∷ steps) said are new none =
+    let rest = steps_fit Free Left (after_step progress line (Starts (Sink own wanted is_known) call)) line steps said.1 are.1 new none in
+    ((are.0 0 (rw (said.0 0).starts_it refl), rest.0), rest.1)
 steps_fit Free Left progress line (WaitsForAll ids ∷ steps) said are new none =
     let rest = steps_fit Free Left (after_step progress line (WaitsForAll ids)) line steps said.1 are.1 new
     (λ number free. without_all_none (numbers_of progress.active ids) progress.active (Own number) (none number free)) in
@@ -104,6 +110,7 @@ new_more Free More Left (Starts (Own request) call ∷ steps) le new =
     (le request new.0, new_more (But request Free) (But request More) Left steps (λ number but. (le number but.0, but.1)) new.1)
 new_more Free More Left (Starts (Whole line) call ∷ steps) le new = new_more Free More Left steps le new
 new_more Free More Left (Starts (ReceiveHalf line) call ∷ steps) le new = new_more Free More Left steps le new
+new_more Free More Left (Starts (Sink own wanted is_known) call ∷ steps) le new = new_more Free More Left steps le new
 new_more Free More Left (Does call ∷ steps) le new = new_more Free More Left steps le new
 new_more Free More Left (WaitsForAll ids ∷ steps) le new = new_more Free More Left steps le new
 new_more Free More Left (WaitsForOne id ids ∷ steps) le new = new_more Free More Left steps le new
@@ -115,6 +122,7 @@ new_append Free Mid Left [] ys first others = new_more Mid Free Left ys first ot
 new_append Free Mid Left (Starts (Own request) call ∷ xs) ys first others = (first.0, new_append (But request Free) Mid Left xs ys first.1 others)
 new_append Free Mid Left (Starts (Whole line) call ∷ xs) ys first others = new_append Free Mid Left xs ys first others
 new_append Free Mid Left (Starts (ReceiveHalf line) call ∷ xs) ys first others = new_append Free Mid Left xs ys first others
+new_append Free Mid Left (Starts (Sink own wanted is_known) call ∷ xs) ys first others = new_append Free Mid Left xs ys first others
 new_append Free Mid Left (Does call ∷ xs) ys first others = new_append Free Mid Left xs ys first others
 new_append Free Mid Left (WaitsForAll ids ∷ xs) ys first others = new_append Free Mid Left xs ys first others
 new_append Free Mid Left (WaitsForOne id ids ∷ xs) ys first others = new_append Free Mid Left xs ys first others
@@ -222,8 +230,35 @@ end_new : (Free Left : ℕ → Type 0) (b : Bool) (ends goes : Outcome) → NewS
 end_new Free Left true ends goes first others = first
 end_new Free Left false ends goes first others = others
 
-pub outcome_new : (Free Left : ℕ → Type 0) (run : Run) (choice : Choice) (placed : Placed) (o : Option Why) → StaysFree Free Left → StartsNew (IsNew Free Left) placed.called → NewSteps Free Left (steps_in (outcome_by run choice placed o))
+outcome_new : (Free Left : ℕ → Type 0) (run : Run) (choice : Choice) (placed : Placed) (o : Option Why) → StaysFree Free Left → StartsNew (IsNew Free Left) placed.called → NewSteps Free Left (steps_in (outcome_by run choice placed o))
 outcome_new Free Left run choice placed (Some why) le new =
     before_new Free Left run choice placed placed.called why le (steps_new Free Left run choice placed le new)
 outcome_new Free Left run choice placed None le new =
     end_new Free Left (is_end placed.called) _ (GoesOn (steps_of run choice placed)) le (steps_new Free Left run choice placed le new)
+
+-- ---- Sinks ----
+
+halves_new : (Free Left : ℕ → Type 0) (placed : Placed) (wanted : Wanted) (request received : ℕ) (sent : Sent) → StaysFree Free Left → IsNew Free Left request → NewSteps Free Left (started_halves placed wanted request received sent)
+halves_new Free Left placed wanted request received sent le new =
+    new_append Free Left Left (if is_gone placed.journal.lines request then [] else starts_half wanted (Own request) sent ∷ []) (sinks placed wanted (Some received) ∷ [])
+    (new_if Free Left (is_gone placed.journal.lines request) [] (starts_half wanted (Own request) sent ∷ []) le
+    (new.free, λ number left. (le number left, new.apart number left)))
+    (λ number left. left)
+
+first_new : (Free Left : ℕ → Type 0) (it : Called) (request received : ℕ) (sent : Sent) (awaited : Awaited) → it ≡ StartsExchange request received sent awaited → StartsNew (IsNew Free Left) it → IsNew Free Left request
+first_new Free Left it request received sent awaited is new = (subst (λ (one : Called). StartsNew (IsNew Free Left) one) is new).0
+
+sinks_new : (Free Left : ℕ → Type 0) (run : Run) (placed : Placed) → StaysFree Free Left → StartsNew (IsNew Free Left) placed.called → PassLists run placed (NewSteps Free Left)
+sinks_new Free Left run placed le new = record {
+  nothing = le;
+  alone = λ wanted is own. le;
+  both = λ wanted is sent awaited called. le;
+  halves = λ wanted is request received sent awaited called.
+      halves_new Free Left placed wanted request received sent le (first_new Free Left placed.called request received sent awaited called new);
+}
+
+pub outcome_in_new : (Free Left : ℕ → Type 0) (run : Run) (choice : Choice) (records : List Written) (placed : Placed) → StaysFree Free Left → StartsNew (IsNew Free Left) placed.called → NewSteps Free Left (steps_in (outcome_in run choice records placed))
+outcome_in_new Free Left run choice records placed le new =
+    in_passes run choice records placed (λ (outcome : Outcome). NewSteps Free Left (steps_in outcome)) (outcome_new Free Left run choice placed (why_at run placed) le new)
+    (by_lists run placed (NewSteps Free Left) (λ (outcome : Outcome). NewSteps Free Left (steps_in outcome)) (λ steps are awaits. are) (λ steps why are. are)
+    (sinks_new Free Left run placed le new))

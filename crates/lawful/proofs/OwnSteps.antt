@@ -34,11 +34,11 @@ PassOwn S (StartsCollective request collective own root) = (comm : ℕ) → S (S
 PassOwn S (StartsDuplicate request own) = (comm : ℕ) → S (Starts (Own request) (start_collective comm kind.Barrier))
 PassOwn S it = ⊤
 
-all_if : (S : Step → Type 0) (b : Bool) (xs ys : List Step) → AllSteps S xs → AllSteps S ys → AllSteps S (if b then xs else ys)
+pub all_if : (S : Step → Type 0) (b : Bool) (xs ys : List Step) → AllSteps S xs → AllSteps S ys → AllSteps S (if b then xs else ys)
 all_if S true xs ys first others = first
 all_if S false xs ys first others = others
 
-all_append : (S : Step → Type 0) (xs ys : List Step) → AllSteps S xs → AllSteps S ys → AllSteps S (xs ++ ys)
+pub all_append : (S : Step → Type 0) (xs ys : List Step) → AllSteps S xs → AllSteps S ys → AllSteps S (xs ++ ys)
 all_append S [] ys first others = others
 all_append S (x ∷ xs) ys first others = (first.0, all_append S xs ys first.1 others)
 

@@ -11,28 +11,25 @@ use Rattle.mpicall.specs.declared.call.Call.{Call}
 use Rattle.mpicall.specs.declared.call.Call.TheVariants.{Coll, Finalize}
 use Rattle.journals.specs.Lines.{Line}
 use Rattle.journals.specs.Journal.{Journal}
-use Rattle.journals.specs.Known.{is_among, are_distinct, has_report}
+use Rattle.journals.specs.Known.{is_among, are_distinct}
 use Rattle.journals.specs.declared.field.Field.{Field}
 use Rattle.journals.specs.declared.word.Word.{Word}
 use Rattle.journals.specs.declared.word.Word.TheVariants.{Call as CallLine, Report}
-use Rattle.journals.specs.declared.word.ReportWord.TheVariants as report
 use Rattle.closing.specs.Called.{Called, Sends, StartsSend, Receives, StartsReceive, Exchanges, Probes, Waits, Collects, StartsCollective, comm_of}
 use Rattle.closing.specs.RankComms.{RankComms, comms_first, key_next, key_under, after_line}
 use Rattle.closing.specs.Entries.{Run, Placed, journal_at, lines_in, lines_at, entries_from, entries_in}
 use Rattle.closing.specs.Reported.{Message, is_gone}
 use Rattle.closing.specs.Numbers.{number_of, preface_of}
 use Rattle.closing.specs.Steps.{Id, Own, Step, Does, Starts, WaitsForAll, Progress, numbers_of, wait_for, waits_for, after_steps}
-use Rattle.closing.specs.Endings.{can_be, first_of, is_unknown, is_unreported, lacks_number, message_at, needs_number, number_at, why_at}
+use Rattle.closing.specs.Endings.{is_unknown, is_unreported, message_at, needs_number, number_at, why_at}
 use Rattle.closing.specs.Entry.{Choice, Here, here_at, send, start_send, receive, start_receive, exchange, probe, start_collective, kind_of, does, starts, ids_of, id_of, matched_message, on_comm, is_past, steps_by, steps_of}
 use Rattle.closing.specs.Recording.{Listed, is_end, calls_of, cut, list_from, most_records, progress_first, whole_list, without_journal}
 use Rattle.closing.specs.declared.choice.Calls.{Calls}
 use Rattle.closing.specs.declared.choice.Calls.TheVariants.{Strict}
-use Rattle.closing.specs.declared.why.Why.{Why}
-use Rattle.closing.specs.declared.why.Why.TheVariants.{NeverCameBack, NeverReported, Failed, NoNumber, CannotBe}
 use Rattle.lawful.specs.Plain.{is_plain, is_said_once, same_call, same_call_at, started_by, waited_by, but, are_used_once, EachPlainJournalStaysTheSame}
 use Rattle.lawful.proofs.StepLemmas.{calls_in, plain_calls, added_plain}
-use Rattle.lawful.proofs.WalkLemmas.{breaks_none}
-use Rattle.lawful.proofs.EndLemmas.{goes_on, entry_list, end_list, none_of, ends_through, cut_by}
+use Rattle.lawful.proofs.NoSinks.{Clear, NoSinks, clear, steps_none, steps_not}
+use Rattle.lawful.proofs.EndLemmas.{goes_on, end_list, none_of, next_of, ends_through, first_none, cut_by}
 use Rattle.lawful.proofs.PlainLemmas.{Stands, Adds, does_adds, starts_adds, waits_adds}
 
 abbrev AddsSteps : (ℕ → ℕ) → List ℕ → List ℕ → Progress → ℕ → ((ℕ → ℕ) → List Call) → List ℕ → List ℕ → List Step → Type 0
@@ -154,26 +151,6 @@ needs_or_waits (Collects collective own root) plain none = absurd (false≢true 
 needs_or_waits (StartsCollective request collective own root) plain none = absurd (false≢true (sym none))
 needs_or_waits _ plain none = absurd (false≢true plain)
 
--- what is so of an entry at which the list goes on
-pub record Clear (run : Run) (placed : Placed) : Type 0 where
-  pub well : has_report report.Failed placed.entry ≡ false
-  pub numbered : lacks_number run placed ≡ false
-  pub told : is_unreported placed placed.called ≡ false
-  pub known : is_unknown placed placed.called ≡ false
-
-clear_of : (run : Run) (placed : Placed) (a b c d e : Bool) → has_report report.Failed placed.entry ≡ a → lacks_number run placed ≡ c → is_unreported placed placed.called ≡ d → is_unknown placed placed.called ≡ e → first_of ((a, Failed) ∷ (b, CannotBe) ∷ (c, NoNumber) ∷ (d, NeverReported) ∷ (e, NeverCameBack) ∷ []) ≡ None → Clear run placed
-clear_of run placed true b c d e first third fourth fifth h = absurd (none-some Failed (sym h))
-clear_of run placed false true c d e first third fourth fifth h = absurd (none-some CannotBe (sym h))
-clear_of run placed false false true d e first third fourth fifth h = absurd (none-some NoNumber (sym h))
-clear_of run placed false false false true e first third fourth fifth h = absurd (none-some NeverReported (sym h))
-clear_of run placed false false false false true first third fourth fifth h = absurd (none-some NeverCameBack (sym h))
-clear_of run placed false false false false false first third fourth fifth h = record { well = first; numbered = third; told = fourth; known = fifth }
-
-pub clear : (run : Run) (placed : Placed) → why_at run placed ≡ None → Clear run placed
-clear run placed h =
-    clear_of run placed (has_report report.Failed placed.entry) (not (can_be run placed)) (lacks_number run placed) (is_unreported placed placed.called)
-    (is_unknown placed placed.called) refl refl refl refl (breaks_none placed.called _ h)
-
 -- the entry's number, or its requests
 entry_by : (run : Run) (choice : Choice) (placed : Placed) (old : ℕ → ℕ) (known used : List ℕ) (progress : Progress) (needs : Bool) (o : Option ℕ) → needs_number placed.called ≡ needs → number_at run placed ≡ o → (needs && is_none o) ≡ false → is_plain placed.called ≡ true → Clear run placed → Fits choice placed known used placed.called → Stands old known used progress → AddsSteps old known used progress placed.line (λ number. same_call number o (message_at placed) placed.called) (started_by placed.called) (waited_by placed.called) (steps_by run choice placed o)
 entry_by run choice placed old known used progress true None needs is lacks plain clear fits stands = absurd (false≢true (sym lacks))
@@ -228,9 +205,9 @@ plain_no_end (StartsCollective request collective own root) plain = refl
 plain_no_end _ plain = absurd (false≢true plain)
 
 -- the list as it is where no entry up to the end breaks it off
-last_went : (run : Run) (choice : Choice) (last : Placed) (after : List Placed) (old : ℕ → ℕ) (known used : List ℕ) (progress : Progress) → why_at run last ≡ None → is_end last.called ≡ true → Stands old known used progress → Went run [] old known progress (calls_before (list_from run choice progress (last ∷ after)))
-last_went run choice last after old known used progress why ends stands =
-    subst (λ (o : Option Why). Went run [] old known progress (calls_before (entry_list run choice last after progress o))) (sym why)
+last_went : (run : Run) (choice : Choice) (last : Placed) (after : List Placed) (old : ℕ → ℕ) (known used : List ℕ) (progress : Progress) → NoSinks progress.records → why_at run last ≡ None → is_end last.called ≡ true → Stands old known used progress → Went run [] old known progress (calls_before (list_from run choice progress (last ∷ after)))
+last_went run choice last after old known used progress none why ends stands =
+    subst (λ (list : Listed). Went run [] old known progress (calls_before list)) (sym (next_of run choice last after progress none why))
     (subst (λ (b : Bool). Went run [] old known progress (calls_before (end_list run choice last after progress b))) (sym ends)
     (record {
       number = old;
@@ -239,9 +216,9 @@ last_went run choice last after old known used progress why ends stands =
           ∙ ap (λ (ids : List Id). calls_in progress ++ waits_for (length (numbers_of progress.active ids)) (numbers_of progress.active ids)) stands.none_late;
     }))
 
-next_went : (run : Run) (choice : Choice) (placed : Placed) (others : List Placed) (entries : List Placed) (old : ℕ → ℕ) (known : List ℕ) (progress : Progress) → why_at run placed ≡ None → is_end placed.called ≡ false → Went run entries old known progress (calls_before (list_from run choice (after_steps progress placed.line (steps_of run choice placed)) others)) → Went run entries old known progress (calls_before (list_from run choice progress (placed ∷ others)))
-next_went run choice placed others entries old known progress why goes went =
-    subst (λ (o : Option Why). Went run entries old known progress (calls_before (entry_list run choice placed others progress o))) (sym why)
+next_went : (run : Run) (choice : Choice) (placed : Placed) (others : List Placed) (entries : List Placed) (old : ℕ → ℕ) (known : List ℕ) (progress : Progress) → NoSinks progress.records → why_at run placed ≡ None → is_end placed.called ≡ false → Went run entries old known progress (calls_before (list_from run choice (after_steps progress placed.line (steps_of run choice placed)) others)) → Went run entries old known progress (calls_before (list_from run choice progress (placed ∷ others)))
+next_went run choice placed others entries old known progress none why goes went =
+    subst (λ (list : Listed). Went run entries old known progress (calls_before list)) (sym (next_of run choice placed others progress none why))
     (subst (λ (b : Bool). Went run entries old known progress (calls_before (end_list run choice placed others progress b))) (sym goes) went)
 
 -- what one entry adds, and the others
@@ -257,10 +234,10 @@ both_went run placed others old known used started waited progress new calls add
 pub strict_past : (choice : Choice) (placed : Placed) → choice.calls ≡ Strict → is_past choice.calls placed ≡ false
 strict_past choice placed strict = ap (λ (calls : Calls). is_past calls placed) strict
 
-list_went : (run : Run) (choice : Choice) (lines : List Line) → choice.calls ≡ Strict → ((request : ℕ) → is_gone lines request ≡ false) → ((request : ℕ) → matched_message lines request ≡ None) → (before : List Placed) (last : Placed) (after : List Placed) (old : ℕ → ℕ) (known used : List ℕ) (progress : Progress) → AreOf lines before → list_all (goes_on run) (before ++ last ∷ []) ≡ true → is_end last.called ≡ true → list_all (λ (placed : Placed). is_plain placed.called) before ≡ true → are_used_once known used (map (λ (placed : Placed). placed.called) before) ≡ true → Stands old known used progress → Went run before old known progress (calls_before (list_from run choice progress (before ++ last ∷ after)))
-list_went run choice lines strict gone matched [] last after old known used progress own goes ends plain once stands =
-    last_went run choice last after old known used progress (none_of (why_at run last) (and_parts (goes_on run last) true goes).0) ends stands
-list_went run choice lines strict gone matched (placed ∷ before) last after old known used progress own goes ends plain once stands =
+list_went : (run : Run) (choice : Choice) (lines : List Line) → choice.calls ≡ Strict → ((request : ℕ) → is_gone lines request ≡ false) → ((request : ℕ) → matched_message lines request ≡ None) → (before : List Placed) (last : Placed) (after : List Placed) (old : ℕ → ℕ) (known used : List ℕ) (progress : Progress) → NoSinks progress.records → AreOf lines before → list_all (goes_on run) (before ++ last ∷ []) ≡ true → is_end last.called ≡ true → list_all (λ (placed : Placed). is_plain placed.called) before ≡ true → are_used_once known used (map (λ (placed : Placed). placed.called) before) ≡ true → Stands old known used progress → Went run before old known progress (calls_before (list_from run choice progress (before ++ last ∷ after)))
+list_went run choice lines strict gone matched [] last after old known used progress none own goes ends plain once stands =
+    last_went run choice last after old known used progress none (none_of (why_at run last) (and_parts (goes_on run last) true goes).0) ends stands
+list_went run choice lines strict gone matched (placed ∷ before) last after old known used progress none own goes ends plain once stands =
     let it = placed.called in
     let here = and_parts (goes_on run placed) (list_all (goes_on run) (before ++ last ∷ [])) goes in
     let why = none_of (why_at run placed) here.0 in
@@ -282,8 +259,8 @@ list_went run choice lines strict gone matched (placed ∷ before) last after ol
     } in
     let new = after_steps progress placed.line (steps_of run choice placed) in
     let adds = entry_adds run choice placed old known used progress why plains.0 fits stands in
-    let went = list_went run choice lines strict gone matched before last after adds.next (started_by it ++ known) (started_by it ++ but (waited_by it) used) new own.1 here.1 ends plains.1 fourth.1 adds.stands in
-    next_went run choice placed (before ++ last ∷ after) (placed ∷ before) old known progress why (plain_no_end it plains.0)
+    let went = list_went run choice lines strict gone matched before last after adds.next (started_by it ++ known) (started_by it ++ but (waited_by it) used) new (steps_none progress placed.line (steps_of run choice placed) (steps_not run choice placed) none) own.1 here.1 ends plains.1 fourth.1 adds.stands in
+    next_went run choice placed (before ++ last ∷ after) (placed ∷ before) old known progress none why (plain_no_end it plains.0)
     (both_went run placed before old known used (started_by it) (waited_by it) progress new (calls_before (list_from run choice new (before ++ last ∷ after))) adds went)
 
 -- ---- One call for each ----
@@ -377,8 +354,8 @@ each_plain_journal_stays_the_same run choice rank strict gone plain few =
     } in
     let own = of_before (lines_at run rank) gone.before (gone.last ∷ gone.after)
     (subst (λ (entries : List Placed). AreOf (lines_at run rank) entries) gone.are (all_of rank (journal_at run rank))) in
-    let went = list_went run choice (lines_at run rank) strict plain.none_gone plain.none_matched gone.before gone.last gone.after (λ request. 0) [] [] first own gone.none_breaks gone.ends plain.plain plain.once stands in
-    let end = ends_through run choice gone.before gone.last gone.after first gone.ends gone.none_breaks in
+    let went = list_went run choice (lines_at run rank) strict plain.none_gone plain.none_matched gone.before gone.last gone.after (λ request. 0) [] [] first (first_none run rank) own gone.none_breaks gone.ends plain.plain plain.once stands in
+    let end = ends_through run choice gone.before gone.last gone.after first (first_none run rank) gone.ends gone.none_breaks in
     let said = flat_map (same_call_at run went.number) gone.before in
     record {
       number = went.number;

@@ -13,12 +13,13 @@ use Rattle.mpicall.specs.Limits.{in_ranges}
 use Rattle.mpicall.specs.declared.limits.TheConstants.{GREATEST_COMM, GREATEST_RANK, GREATEST_COLOUR, GREATEST_REQUEST}
 use Rattle.mpicall.specs.declared.call.Call.{Call}
 use Rattle.mpicall.specs.declared.call.Call.TheVariants.{Split, Finalize, Open}
+use Rattle.mpicall.specs.declared.call.Mode.TheVariants.{Standard}
 use Rattle.journals.specs.Lines.{Line}
 use Rattle.journals.specs.Journal.{Journal}
 use Rattle.journals.specs.declared.field.Field.{Field}
 use Rattle.journals.specs.declared.word.Word.{Word}
 use Rattle.journals.specs.declared.word.Word.TheVariants.{Call as CallLine, Report}
-use Rattle.closing.specs.Called.{Called, Awaited, Receives, StartsReceive, Exchanges, StartsExchange, Probes, ProbesMatching}
+use Rattle.closing.specs.Called.{Called, Sent, Awaited, Receives, StartsReceive, Exchanges, StartsExchange, Probes, ProbesMatching}
 use Rattle.closing.specs.Keys.{Key, World, same_key, group_of_key, has_member}
 use Rattle.closing.specs.RankComms.{RankComms, comms_first, after_line}
 use Rattle.closing.specs.Entries.{Run, Placed, journal_at, entries_from, entries_in, entries_at, ranks_of}
@@ -27,16 +28,19 @@ use Rattle.closing.specs.Reported.{Message, got_in, done_of, message_of}
 use Rattle.closing.specs.Steps.{Written, Progress, Step, WaitsForLate, after_steps}
 use Rattle.closing.specs.Endings.{awaited_at, message_at, awaited_can_be, sends_can_be, can_be, size_at, number_at, why_at}
 use Rattle.closing.specs.Entry.{Choice, is_past, here_at, on_none, parent_group, steps_by, steps_of}
-use Rattle.closing.specs.Recording.{Listed, Outcome, GoesOn, Ends, is_end, steps_before, outcome_by, outcome_of, go_on, list_from, progress_first, whole_list, most_records, line_of, cut, without_journal, list_of, calls_of, recording_of}
+use Rattle.closing.specs.Recording.{Listed, is_end, steps_before, outcome_by, outcome_in, go_on, list_from, progress_first, whole_list, most_records, line_of, cut, without_journal, list_of, calls_of, recording_of}
+use Rattle.closing.specs.Sinks.{Outcome, GoesOn, Ends}
+use Rattle.closing.specs.declared.pending.Wanted.{Wanted}
 use Rattle.closing.specs.declared.why.Why.{Why}
 use Rattle.closing.specs.declared.why.Why.TheVariants.{NeverReported, TooLong}
 use Rattle.lawful.specs.Closed.{EachListIsInRanges}
 use Rattle.lawful.proofs.KeyLemmas.{same_key_is_equal}
 use Rattle.lawful.proofs.StepLemmas.{AreSaid, calls_in, plain_calls}
 use Rattle.lawful.proofs.TableLemmas.{steps_said}
-use Rattle.lawful.proofs.ListLemmas.{list_of_fits}
+use Rattle.lawful.proofs.ListLemmas.{list_of_fits, sinks_said}
 use Rattle.lawful.proofs.PassLemmas.{AreSteps, steps_unless}
-use Rattle.lawful.proofs.NameLemmas.{none_names, message_fits}
+use Rattle.lawful.proofs.NameLemmas.{none_names, message_fits, on_group}
+use Rattle.lawful.proofs.SinkCases.{IsUnsure, PassCalls, by_lists, calls_pass, half_sent, in_passes, lists_both}
 use Rattle.lawful.proofs.CallLemmas.{can_at}
 use Rattle.lawful.proofs.FaultLemmas.{records_short}
 use Rattle.lawful.proofs.RangeLemmas.{AllRanged, Ranged, InRanges, ranged_take, ranged_all, steps_ranged}
@@ -46,8 +50,8 @@ use Rattle.lawful.proofs.RunFull.{RunFull, run_full, journal_at_full}
 use Rattle.lawful.proofs.KeyGroups.{KeyFull, AllKeys, numbered_full, early_full}
 use Rattle.lawful.proofs.HeadLemmas.{few_numbered}
 use Rattle.lawful.proofs.FieldRanges.{FieldOk, ReportedOk, MessageOk, line_ok, got_ok, done_ok, message_ok}
-use Rattle.lawful.proofs.CalledRanges.{CalledOk, called_in}
-use Rattle.lawful.proofs.RangedTable.{Given, on_comm_ranged, maker_ranged, rank_low}
+use Rattle.lawful.proofs.CalledRanges.{CalledOk, SentOk, called_in}
+use Rattle.lawful.proofs.RangedTable.{Given, on_comm_ranged, maker_ranged, rank_low, start_send_ranged}
 
 -- ---- Communicators of the head ----
 
@@ -196,10 +200,34 @@ end_ok : (run : Run) (choice : Choice) (placed : Placed) (b : Bool) → StepsOk 
 end_ok run choice placed true ok = ((tt, tt), (tt, tt))
 end_ok run choice placed false ok = ok
 
-pub outcome_ok : (run : Run) (choice : Choice) (placed : Placed) (o : Option Why) → why_at run placed ≡ o → RunFull run → EntryFull run placed → OutcomeOk (outcome_by run choice placed o)
+outcome_ok : (run : Run) (choice : Choice) (placed : Placed) (o : Option Why) → why_at run placed ≡ o → RunFull run → EntryFull run placed → OutcomeOk (outcome_by run choice placed o)
 outcome_ok run choice placed (Some why) is full entry = before_ok run choice placed placed.called why is full entry
 outcome_ok run choice placed None is full entry =
     end_ok run choice placed (is_end placed.called) (steps_said run choice placed, steps_in run choice placed full entry (can_at run placed (rw is refl)))
+
+-- what an exchange sends is in its ranges
+half_ok : (it : Called) (sent : Sent) → half_sent it ≡ Some sent → CalledOk it → SentOk Standard sent
+half_ok (Exchanges one awaited) sent h ok = subst (λ (s : Sent). SentOk Standard s) (same_Some one sent h) ok.0
+half_ok (StartsExchange request received one awaited) sent h ok = subst (λ (s : Sent). SentOk Standard s) (same_Some one sent h) ok.0
+half_ok _ sent h ok = absurd (none-some sent h)
+
+sink_ranged : (run : Run) (placed : Placed) (wanted : Wanted) → RunFull run → EntryFull run placed → IsUnsure run placed wanted → PassCalls Ranged placed wanted
+sink_ranged run placed wanted full entry is =
+    let on = on_group run placed wanted is in
+    let facts = given run full on.key wanted.comm (subst (λ (o : Option Key). option_and_then (number_of run) o ≡ Some wanted.comm) on.is_key is.number) in
+    record {
+      sink = λ number started. rw (started, facts.number) refl;
+      half = λ sent h number.
+          start_send_ranged wanted.comm (group_of_key (length run) on.key) Standard sent (record { number = facts.number; size = facts.size }) (on.half sent h)
+          (half_ok placed.called sent h entry.ok) number;
+    }
+
+pub outcome_in_ok : (run : Run) (choice : Choice) (records : List Written) (placed : Placed) → RunFull run → EntryFull run placed → OutcomeOk (outcome_in run choice records placed)
+outcome_in_ok run choice records placed full entry =
+    in_passes run choice records placed OutcomeOk (outcome_ok run choice placed (why_at run placed) refl full entry)
+    (by_lists run placed StepsOk OutcomeOk (λ steps ok awaits. ok) (λ steps why ok. ok)
+    (lists_both run placed AreSaid (AreSteps Ranged) (sinks_said run placed)
+    (calls_pass Ranged run placed (λ wanted is. sink_ranged run placed wanted full entry is))))
 
 abbrev RecordsRanged : Listed → Type 0
 RecordsRanged it = AllRanged 0 (map (λ one. one.call) it.records)
@@ -211,8 +239,8 @@ on_outcome progress line (Ends steps end why) others ok ranges rest = (steps_ran
 list_ranged : (run : Run) (choice : Choice) (entries : List Placed) (progress : Progress) → RunFull run → EntriesFull run entries → InRanges progress → RecordsRanged (list_from run choice progress entries)
 list_ranged run choice [] progress full all ranges = ranges.ranged
 list_ranged run choice (placed ∷ entries) progress full all ranges =
-    on_outcome progress placed.line (outcome_of run choice placed) (λ new. list_from run choice new entries)
-    (outcome_ok run choice placed (why_at run placed) refl full all.0) ranges (λ new new_ranges. list_ranged run choice entries new full all.1 new_ranges)
+    on_outcome progress placed.line (outcome_in run choice progress.records placed) (λ new. list_from run choice new entries)
+    (outcome_in_ok run choice progress.records placed full all.0) ranges (λ new new_ranges. list_ranged run choice entries new full all.1 new_ranges)
 
 -- ---- The preface ----
 
@@ -339,7 +367,7 @@ ranged_if false first other is_first is_other = is_other
 cut_ranged : (it : Listed) → RecordsRanged it → RecordsRanged (cut it)
 cut_ranged it all =
     ranged_if (nat_lt (length it.records) most_records) it
-    (record { records = take (most_records - 1) it.records; end = Open; line = line_of (slice_get it.records (most_records - 1)); why = Some TooLong }) all
+    (record { records = take (most_records - 1) it.records; end = Open; line = line_of (slice_get it.records (most_records - 1)); why = Some TooLong; active = it.active }) all
     (subst (λ (calls : List Call). AllRanged 0 calls) (take-map (λ (one : Written). one.call) (most_records - 1) it.records)
     (ranged_take (most_records - 1) 0 (map (λ one. one.call) it.records) all))
 

@@ -61,7 +61,7 @@ send_ranged : (comm : ℕ) (group : List ℕ) (mode : Mode) (sent : Sent) → Ro
 send_ranged comm group mode sent room fits ok started =
     rw (room.number, dest_ranged group sent room.size fits, tag_ranged sent.tag ok.tag, ok.bytes, ok.may) refl
 
-start_send_ranged : (comm : ℕ) (group : List ℕ) (mode : Mode) (sent : Sent) → Room comm group → FitsSent group sent → SentOk mode sent → (number : ℕ) → Ranged (start_send mode comm sent number)
+pub start_send_ranged : (comm : ℕ) (group : List ℕ) (mode : Mode) (sent : Sent) → Room comm group → FitsSent group sent → SentOk mode sent → (number : ℕ) → Ranged (start_send mode comm sent number)
 start_send_ranged comm group mode sent room fits ok number started =
     rw (started, room.number, dest_ranged group sent room.size fits, tag_ranged sent.tag ok.tag, ok.bytes, ok.may) refl
 

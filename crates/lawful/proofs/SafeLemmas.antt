@@ -26,7 +26,10 @@ use Rattle.closing.specs.Endings.{number_at}
 use Rattle.closing.specs.Entry.{Choice, Here, send, start_send, receive, start_receive, exchange, probe, start_collective, does, does_both, starts, does_collective, starts_collective, unless_past, on_comm, on_none, is_past, here_at, kind_of, steps_by, steps_of}
 use Rattle.lawful.proofs.StepLemmas.{calls_in}
 use Rattle.lawful.proofs.PassLemmas.{AreSteps, PassWaits, steps_if, steps_append, steps_or, steps_unless}
+use Rattle.closing.specs.declared.pending.Wanted.{Wanted}
 use Rattle.lawful.proofs.NameLemmas.{none_names}
+use Rattle.closing.specs.Sinks.{sinks}
+use Rattle.lawful.proofs.SinkCases.{IsUnsure, PassCalls, PassLists, alone_steps, both_halves, both_steps, halves_steps, started_halves}
 use Rattle.lawful.proofs.HoldLemmas.{steps_keep}
 use Rattle.lawful.proofs.KeyFacts.{member_is}
 use Rattle.lawful.proofs.CalledLemmas.{GroupIs}
@@ -189,3 +192,35 @@ steps_by_keep run choice rank placed progress (Some comm) is within makes_not ok
 pub steps_of_keep : (run : Run) (choice : Choice) (rank : ℕ) (placed : Placed) (progress : Progress) → rank < length run → makes_comm placed.called ≡ false → GroupOk rank placed.called → KeptBy run rank placed.comms (calls_in progress) → KeptBy run rank placed.comms (calls_in (after_steps progress placed.line (steps_of run choice placed)))
 steps_of_keep run choice rank placed progress within makes_not ok kept =
     steps_by_keep run choice rank placed progress (number_at run placed) refl within makes_not ok kept
+
+-- ---- Sinks ----
+
+sink_safe : (groups : Groups) (rank : ℕ) (placed : Placed) (wanted : Wanted) → PassCalls (Safe groups rank wanted.comm) placed wanted
+sink_safe groups rank placed wanted = record {
+  sink = λ number. record { passes = λ calls own. record { comms = own; afresh = refl }; makes_none = refl };
+  half = λ sent half number. start_send_safe groups rank wanted.comm Standard sent number;
+}
+
+sink_keeps : (run : Run) (rank : ℕ) (placed : Placed) (progress : Progress) (wanted : Wanted) (steps : List Step) → IsUnsure run placed wanted → AreSteps (Safe (groups_of run) rank wanted.comm) steps → GroupOk rank placed.called → KeptBy run rank placed.comms (calls_in progress) → KeptBy run rank placed.comms (calls_in (after_steps progress placed.line steps))
+sink_keeps run rank placed progress wanted steps is safe ok kept =
+    (steps_keep (KeptOn run rank placed.comms.numbers placed.comms.waves placed.comms.own wanted.comm) (Safe (groups_of run) rank wanted.comm) progress placed.line
+    steps (safe_keeps run rank placed.comms.numbers placed.comms.waves placed.comms.own wanted.comm) (waits_safe (groups_of run) rank wanted.comm) safe
+    (kept, own_at run rank placed (calls_in progress) wanted.comm kept ok is.number)).0
+
+-- what a list keeps as sinks are put into it
+abbrev pub KeptAfter : Run → ℕ → Placed → Progress → List Step → Type 0
+KeptAfter run rank placed progress steps = KeptBy run rank placed.comms (calls_in (after_steps progress placed.line steps))
+
+pub sinks_keep : (run : Run) (rank : ℕ) (placed : Placed) (progress : Progress) → GroupOk rank placed.called → KeptBy run rank placed.comms (calls_in progress) → PassLists run placed (KeptAfter run rank placed progress)
+sinks_keep run rank placed progress ok kept = record {
+  nothing = kept;
+  alone = λ wanted is own.
+      sink_keeps run rank placed progress wanted (sinks placed wanted own ∷ []) is
+      (alone_steps (Safe (groups_of run) rank wanted.comm) placed wanted own (sink_safe (groups_of run) rank placed wanted)) ok kept;
+  both = λ wanted is sent awaited called.
+      sink_keeps run rank placed progress wanted (both_halves placed wanted sent) is
+      (both_steps (Safe (groups_of run) rank wanted.comm) placed wanted sent awaited called (sink_safe (groups_of run) rank placed wanted)) ok kept;
+  halves = λ wanted is request received sent awaited called.
+      sink_keeps run rank placed progress wanted (started_halves placed wanted request received sent) is
+      (halves_steps (Safe (groups_of run) rank wanted.comm) placed wanted request received sent awaited called (sink_safe (groups_of run) rank placed wanted)) ok kept;
+}

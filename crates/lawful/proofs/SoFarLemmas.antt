@@ -19,7 +19,8 @@ use Rattle.closing.specs.Entries.{Run, Placed, entries_from, did_come_back}
 use Rattle.closing.specs.Reported.{Message, done_in, done_of, is_gone, says_gone, message_of, message_from, with_wildcards}
 use Rattle.closing.specs.Steps.{Step, Does, Starts, WaitsForAll, WaitsForOne, PutsOff, WaitsForLate, Written, Progress, number_in, wait_one, after_step, after_steps}
 use Rattle.closing.specs.Entry.{Choice, matched_in, matched_message}
-use Rattle.closing.specs.Recording.{Listed, Outcome, GoesOn, Ends, outcome_of, go_on, list_from}
+use Rattle.closing.specs.Recording.{Listed, outcome_in, go_on, list_from}
+use Rattle.closing.specs.Sinks.{Outcome, GoesOn, Ends}
 
 -- ---- Lists only grow ----
 
@@ -60,7 +61,7 @@ outcome_grows progress line (Ends steps end why) others rest = steps_grow progre
 pub list_grows : (run : Run) (choice : Choice) (entries : List Placed) (progress : Progress) → Grows progress.records (list_from run choice progress entries).records
 list_grows run choice [] progress = grows_none progress.records
 list_grows run choice (placed ∷ others) progress =
-    outcome_grows progress placed.line (outcome_of run choice placed) (λ new. list_from run choice new others) (λ new. list_grows run choice others new)
+    outcome_grows progress placed.line (outcome_in run choice progress.records placed) (λ new. list_from run choice new others) (λ new. list_grows run choice others new)
 
 -- ---- Entries of the longer journal ----
 

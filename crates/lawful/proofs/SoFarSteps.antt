@@ -26,8 +26,9 @@ use Rattle.closing.specs.declared.why.Why.{Why}
 use Rattle.closing.specs.declared.why.Why.TheVariants.{NeverCameBack, NeverReported, Failed, NoNumber, CannotBe}
 use Rattle.lawful.specs.Plain.{is_plain}
 use Rattle.lawful.specs.SoFar.{WhatIsSoFarStays}
-use Rattle.lawful.proofs.EndLemmas.{goes_on, entry_list, end_list, none_of}
-use Rattle.lawful.proofs.PlainSteps.{clear, does_is, starts_is, ids_are, needs_or_waits, no_number, plain_no_end, strict_past}
+use Rattle.lawful.proofs.NoSinks.{NoSinks, clear, steps_none, steps_not}
+use Rattle.lawful.proofs.EndLemmas.{goes_on, end_list, none_of, next_of, first_none}
+use Rattle.lawful.proofs.PlainSteps.{does_is, starts_is, ids_are, needs_or_waits, no_number, plain_no_end, strict_past}
 use Rattle.lawful.proofs.SoFarLemmas.{Grows, list_grows, with_later, AreAlike, alike, done_append, matched_first, gone_first, message_more}
 
 -- ---- Steps by the number and the message ----
@@ -209,19 +210,19 @@ same run longer choice placed later back strict why plain on =
 abbrev first_with : List Call → Progress
 first_with calls = record { records = written 0 calls; active = []; late = [] }
 
-next_list : (run : Run) (choice : Choice) (placed : Placed) (others : List Placed) (progress : Progress) → why_at run placed ≡ None → is_end placed.called ≡ false → list_from run choice progress (placed ∷ others) ≡ list_from run choice (after_steps progress placed.line (steps_of run choice placed)) others
-next_list run choice placed others progress why goes =
-    ap (λ (o : Option Why). entry_list run choice placed others progress o) why ∙ ap (λ (b : Bool). end_list run choice placed others progress b) goes
+next_list : (run : Run) (choice : Choice) (placed : Placed) (others : List Placed) (progress : Progress) → NoSinks progress.records → why_at run placed ≡ None → is_end placed.called ≡ false → list_from run choice progress (placed ∷ others) ≡ list_from run choice (after_steps progress placed.line (steps_of run choice placed)) others
+next_list run choice placed others progress none why goes =
+    next_of run choice placed others progress none why ∙ ap (λ (b : Bool). end_list run choice placed others progress b) goes
 
 -- the journals of a rank in both runs
 record Both (run longer : Run) (choice : Choice) (lines : List Line) (later : Journal) : Type 0 where
   strict : (other : Placed) → is_past choice.calls other ≡ false
   on : (placed : Placed) → placed.journal.lines ≡ lines → On run longer placed later
 
-begins : (run longer : Run) (choice : Choice) (lines : List Line) (later : Journal) (entries others : List Placed) (progress : Progress) → Both run longer choice lines later → AreAlike lines later entries others → list_all (goes_on run) entries ≡ true → list_all (λ (placed : Placed). is_plain placed.called) entries ≡ true → Grows (list_from run choice progress entries).records (list_from longer choice progress others).records
-begins run longer choice lines later [] others progress both all goes plain = list_grows longer choice others progress
-begins run longer choice lines later (placed ∷ entries) [] progress both all goes plain = absurd all
-begins run longer choice lines later (placed ∷ entries) (other ∷ others) progress both all goes plain =
+begins : (run longer : Run) (choice : Choice) (lines : List Line) (later : Journal) (entries others : List Placed) (progress : Progress) → NoSinks progress.records → Both run longer choice lines later → AreAlike lines later entries others → list_all (goes_on run) entries ≡ true → list_all (λ (placed : Placed). is_plain placed.called) entries ≡ true → Grows (list_from run choice progress entries).records (list_from longer choice progress others).records
+begins run longer choice lines later [] others progress none both all goes plain = list_grows longer choice others progress
+begins run longer choice lines later (placed ∷ entries) [] progress none both all goes plain = absurd all
+begins run longer choice lines later (placed ∷ entries) (other ∷ others) progress none both all goes plain =
     let back = all.0.0 in
     let here = and_parts (goes_on run placed) (list_all (goes_on run) entries) goes in
     let plains = and_parts (is_plain placed.called) (list_all (λ (one : Placed). is_plain one.called) entries) plain in
@@ -229,11 +230,11 @@ begins run longer choice lines later (placed ∷ entries) (other ∷ others) pro
     let it = same run longer choice placed later back both.strict why plains.0 (both.on placed all.0.2) in
     let end = plain_no_end placed.called plains.0 in
     let new = after_steps progress placed.line (steps_of run choice placed) in
-    let now = next_list run choice placed entries progress why end in
+    let now = next_list run choice placed entries progress none why end in
     let then = ap (λ (one : Placed). list_from longer choice progress (one ∷ others)) all.0.1
-    ∙ next_list longer choice (with_later placed later back) others progress (it.why ∙ why) end
+    ∙ next_list longer choice (with_later placed later back) others progress none (it.why ∙ why) end
     ∙ ap (λ (steps : List Step). list_from longer choice (after_steps progress placed.line steps) others) it.steps in
-    let rest = begins run longer choice lines later entries others new both all.1 here.1 plains.1 in
+    let rest = begins run longer choice lines later entries others new (steps_none progress placed.line (steps_of run choice placed) (steps_not run choice placed) none) both all.1 here.1 plains.1 in
     (rest.0, ap (λ (list : Listed). list.records) then ∙ rest.1 ∙ ap (λ (list : Listed). list.records ++ rest.0) (sym now))
 
 pub what_is_so_far_stays : WhatIsSoFarStays
@@ -258,5 +259,5 @@ what_is_so_far_stays run longer choice rank strict on plain =
     let all : AreAlike lines on.later (entries_at run rank) (entries_at longer rank) =
     subst (λ (o : Option Journal). AreAlike lines on.later (entries_in rank o) (entries_at longer rank)) (sym on.is_there)
     (subst (λ (o : Option Journal). AreAlike lines on.later (entries_in rank (Some on.journal)) (entries_in rank o)) (sym on.goes_on) from) in
-    let rest = begins run longer choice lines on.later (entries_at run rank) (entries_at longer rank) first both all plain.none_breaks plain.plain in
+    let rest = begins run longer choice lines on.later (entries_at run rank) (entries_at longer rank) first (first_none run rank) both all plain.none_breaks plain.plain in
     (rest.0, ap (λ (progress : Progress). (list_from longer choice progress (entries_at longer rank)).records) start ∙ rest.1)

@@ -129,7 +129,7 @@ at_place number (one ∷ numbers) h =
     (λ (e : eqb one number ≡ false). rw (e, one-add (position_or_len (λ (other : ℕ). other == number) numbers)) (at_place number numbers (omega (arith, rw e at h))))
     (cases_Bool (eqb one number))
 
-chosen_stands : (number : ℕ) (numbers : List ℕ) (place : ℕ) → position (λ (other : ℕ). other == number) numbers ≡ Some place → take 1 (drop place numbers) ≡ number ∷ []
+pub chosen_stands : (number : ℕ) (numbers : List ℕ) (place : ℕ) → position (λ (other : ℕ). other == number) numbers ≡ Some place → take 1 (drop place numbers) ≡ number ∷ []
 chosen_stands number numbers place h =
     ⊎_elim
     (λ (within : position_or_len (λ (other : ℕ). other == number) numbers < length numbers).

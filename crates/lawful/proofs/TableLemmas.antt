@@ -23,11 +23,11 @@ use Rattle.lawful.proofs.StepLemmas.{AreSaid}
 
 -- ---- Lists of steps ----
 
-said_if : (b : Bool) (xs ys : List Step) → AreSaid xs → AreSaid ys → AreSaid (if b then xs else ys)
+pub said_if : (b : Bool) (xs ys : List Step) → AreSaid xs → AreSaid ys → AreSaid (if b then xs else ys)
 said_if true xs ys first others = first
 said_if false xs ys first others = others
 
-said_append : (xs ys : List Step) → AreSaid xs → AreSaid ys → AreSaid (xs ++ ys)
+pub said_append : (xs ys : List Step) → AreSaid xs → AreSaid ys → AreSaid (xs ++ ys)
 said_append [] ys first others = others
 said_append (x ∷ xs) ys first others = (first.0, said_append xs ys first.1 others)
 
@@ -76,7 +76,7 @@ said_does here call start plain is_start =
 said_starts : (here : Here) (request : ℕ) (start : ℕ → Call) → ((number : ℕ) → IsStart number (start number)) → AreSaid (starts here request start)
 said_starts here request start is_start = said_if (is_gone here.lines request) [] (Starts (Own request) start ∷ []) tt (is_start, tt)
 
-send_starts : (mode : Mode) (comm : ℕ) (it : Sent) (number : ℕ) → IsStart number (start_send mode comm it number)
+pub send_starts : (mode : Mode) (comm : ℕ) (it : Sent) (number : ℕ) → IsStart number (start_send mode comm it number)
 send_starts mode comm it number = record { starts_it = refl; names_none = refl; completes_none = refl; goes_on = refl }
 
 receive_starts : (comm : ℕ) (it : Message) (number : ℕ) → IsStart number (start_receive comm it number)

@@ -23,29 +23,32 @@ use Rattle.journals.specs.declared.word.CallWord.{CallWord}
 use Rattle.journals.specs.declared.word.CallWord.TheVariants as call
 use Rattle.journals.specs.declared.word.ReportWord.{ReportWord}
 use Rattle.journals.specs.declared.word.ReportWord.TheVariants as report
-use Rattle.closing.specs.Called.{Called, StartsSend, StartsReceive, StartsExchange, ProbesMatching, StartsCollective, StartsDuplicate, ReceivesMatched, Waits, Tests, WaitsAny, WaitsSome, called, naturals_in}
+use Rattle.closing.specs.Called.{Called, Sent, Awaited, StartsSend, Receives, StartsReceive, Probes, StartsExchange, ProbesMatching, StartsCollective, StartsDuplicate, ReceivesMatched, Waits, Tests, WaitsAny, WaitsSome, called, naturals_in}
 use Rattle.closing.specs.RankComms.{RankComms, comms_first, after_line}
 use Rattle.closing.specs.Entries.{Run, Placed, journal_at, placed_at, entries_from, entries_in, entries_at}
 use Rattle.closing.specs.Reported.{is_gone}
 use Rattle.closing.specs.Numbers.{preface_of}
-use Rattle.closing.specs.Steps.{Id, Own, Whole, ReceiveHalf, Written, Progress, Step, Does, Starts, WaitsForAll, WaitsForOne, PutsOff, WaitsForLate, number_in, numbers_of, least_free, wait_for_one, waits_for, wait_one, plain, after_step, after_steps}
+use Rattle.closing.specs.declared.pending.Wanted.{Wanted}
+use Rattle.closing.specs.Steps.{Id, Own, Whole, ReceiveHalf, Sink, Written, Progress, Step, Does, Starts, WaitsForAll, WaitsForOne, PutsOff, WaitsForLate, number_in, numbers_of, least_free, wait_for_one, waits_for, wait_one, plain, after_step, after_steps}
 use Rattle.closing.specs.Endings.{needs_number, number_at, why_at}
 use Rattle.closing.specs.Entry.{Choice, Here, here_at, start_send, start_receive, knowing, starts, on_comm, on_none, is_past, steps_by, steps_of, matched_message, starts_send_with, is_of_send, passes_tests, chosen}
-use Rattle.closing.specs.Recording.{GoesOn, Ends, is_end, outcome_by, progress_first}
+use Rattle.closing.specs.Recording.{is_end, outcome_by, outcome_in, progress_first}
+use Rattle.closing.specs.Sinks.{GoesOn, Ends, sinks, starts_half}
 use Rattle.closing.specs.declared.choice.Calls.{Calls}
 use Rattle.closing.specs.declared.choice.Calls.TheVariants as calls
 use Rattle.closing.specs.declared.choice.Tests.{Tests as TestsChoice}
 use Rattle.closing.specs.declared.choice.Tests.TheVariants as tests
 use Rattle.closing.specs.declared.why.Why.{Why}
 use Rattle.lawful.proofs.NameLemmas.{none_names}
-use Rattle.lawful.proofs.PlainSteps.{clear}
+use Rattle.lawful.proofs.NoSinks.{clear}
+use Rattle.lawful.proofs.SinkCases.{IsUnsure, PassSinks, awaits_alone, both_halves, in_passes, sound_is, started_halves}
 use Rattle.lawful.proofs.RightLines.{IsRight, AreRight}
 use Rattle.lawful.proofs.NewNumbers.{IsKnown, IsKnownMessage, New, AllOf, Numbers, all_of, called_numbers}
 use Rattle.lawful.proofs.CalledCases.{is_wait, WaitCase, called_case}
 use Rattle.lawful.proofs.KnownLines.{still_taken, same_matched, same_send}
 use Rattle.lawful.proofs.SentRequests.{Sound, sound_first, sound_push, sound_all, send_push, new_taken, free_not_sent, both_false, either_true}
 use Rattle.lawful.proofs.ActiveSends.{Distinct, IsActive, AllSteps, Keeps, steps_distinct, steps_active, started_active}
-use Rattle.lawful.proofs.OwnSteps.{PassOwn, done_by, stands_for, NoneStands, on_comm_all, received_all, all_unless, waits_all, steps_by_keep}
+use Rattle.lawful.proofs.OwnSteps.{PassOwn, done_by, stands_for, NoneStands, on_comm_all, received_all, all_append, all_if, all_unless, waits_all, steps_by_keep}
 use Rattle.lawful.proofs.RunFacts.{right_of_rank}
 use Rattle.closing.specs.Fit.{starts_send, StartsKind, HasKind, AllHaveKind, TestFits, TestsFit, FitsOn}
 use Rattle.lawful.specs.Laws.{IsRead}
@@ -84,6 +87,9 @@ whole_not line request h = cc
 half_not : (line request : ℕ) → ◌≡◌ {A = Option Id} (Some (ReceiveHalf line)) (Some (Own request)) → ⊥
 half_not line request h = cc
 
+sink_not : (own : Option ℕ) (wanted : Wanted) (is_known : Bool) (request : ℕ) → ◌≡◌ {A = Option Id} (Some (Sink own wanted is_known)) (Some (Own request)) → ⊥
+sink_not own wanted is_known request h = cc
+
 one_written : (P : ℕ → Bool → Type 0) (progress : Progress) (line : ℕ) (o : Option ℕ) (numbers : List ℕ) → AllWritten P progress.records → AllWritten P (wait_one progress line o numbers).records
 one_written P progress line None numbers all = all
 one_written P progress line (Some number) numbers all =
@@ -98,6 +104,8 @@ step_written P progress line (Starts (Whole own) call) kind all =
     written_append P progress.records _ all ((λ other h. absurd (whole_not own other h)), tt)
 step_written P progress line (Starts (ReceiveHalf own) call) kind all =
     written_append P progress.records _ all ((λ other h. absurd (half_not own other h)), tt)
+step_written P progress line (Starts (Sink own wanted is_known) call) kind all =
+    written_append P progress.records _ all ((λ other h. absurd (sink_not own wanted is_known other h)), tt)
 step_written P progress line (WaitsForAll ids) kind all =
     let numbers = numbers_of progress.active ids in
     written_append P progress.records (plain line (waits_for (length numbers) numbers)) all (written_plain P line (waits_for (length numbers) numbers))
@@ -389,56 +397,104 @@ none_completed word fields reports request well h =
     by_fail true is h = absurd (false≢true (sym is))
     by_fail false is h = h
 
--- an entry at which the list goes on
-record GoesSo (run : Run) (choice : Choice) (placed : Placed) (cur : List Line) (word : CallWord) (fields : List Field) (later : List Line) : Type 0 where
+-- an entry, where its call line comes
+record GoesSo (placed : Placed) (cur : List Line) (word : CallWord) (fields : List Field) (later : List Line) : Type 0 where
   here : IsCall placed.journal.lines cur word fields later
   called_is : placed.called ≡ called word fields
   entry_is : placed.entry ≡ entry_of word fields (listing_of later).early
-  goes : why_at run placed ≡ None
 
-send_active : (run : Run) (choice : Choice) (placed : Placed) (cur : List Line) (word : CallWord) (fields : List Field) (later : List Line) (pending : Option Entry) (progress : Progress) (request : ℕ) → GoesSo run choice placed cur word fields later → last_entry cur ≡ pending → Holds placed.journal.lines cur pending progress → is_of_send cur request ≡ true → is_gone placed.journal.lines request ≡ false → is_completed cur request ≡ false → completed_last (Some (entry_of word fields (listing_of later).early)) request ≡ false → IsActive request (after_steps progress placed.line (steps_of run choice placed))
-send_active run choice placed cur word fields later pending progress request so last holds sent stays left mine =
+-- the steps of one at which the list goes on: what they start is of its kind, they wait for no request that the call
+-- doesn't complete, and its send is active after them
+record HasSteps (P : ℕ → Bool → Type 0) (placed : Placed) (progress : Progress) (steps : List Step) : Type 0 where
+  well : has_report report.Failed placed.entry ≡ false
+  kinds : AllSteps (StepKind P) steps
+  keeps : (request : ℕ) → NoneStands placed.journal.lines request (done_by placed placed.called) → AllSteps (Keeps request) steps
+  starts : (request : ℕ) → starts_send_with request placed.called ≡ true → is_gone placed.journal.lines request ≡ false → Distinct progress.active → IsActive request (after_steps progress placed.line steps)
+
+has_steps : (P : ℕ → Bool → Type 0) (run : Run) (choice : Choice) (placed : Placed) (progress : Progress) → PassOwn (StepKind P) placed.called → why_at run placed ≡ None → HasSteps P placed progress (steps_of run choice placed)
+has_steps P run choice placed progress own goes =
+    let it = clear run placed goes in
+    record {
+      well = it.well;
+      kinds = steps_kinds P run choice placed (number_at run placed) own;
+      keeps = λ request apart. steps_by_keep run choice placed request (number_at run placed) apart;
+      starts = λ request h stays distinct. by_started run choice placed (number_at run placed) request progress placed.line it.numbered h stays distinct;
+    }
+
+send_active : (placed : Placed) (cur : List Line) (word : CallWord) (fields : List Field) (later : List Line) (pending : Option Entry) (progress : Progress) (steps : List Step) (request : ℕ) → GoesSo placed cur word fields later → last_entry cur ≡ pending → Holds placed.journal.lines cur pending progress → HasSteps (KindAt (cur ++ record { word = CallLine word; fields = fields } ∷ [])) placed progress steps → is_of_send cur request ≡ true → is_gone placed.journal.lines request ≡ false → is_completed cur request ≡ false → completed_last (Some (entry_of word fields (listing_of later).early)) request ≡ false → IsActive request (after_steps progress placed.line steps)
+send_active placed cur word fields later pending progress steps request so last holds has sent stays left mine =
     let lines = placed.journal.lines in
     let reports = (listing_of later).early in
     let done = completes word (entry_of word fields reports) in
-    let well : has_report report.Failed (entry_of word fields reports) ≡ false =
-    subst (λ (e : Entry). has_report report.Failed e ≡ false) so.entry_is (clear run placed so.goes).well in
+    let well : has_report report.Failed (entry_of word fields reports) ≡ false = subst (λ (e : Entry). has_report report.Failed e ≡ false) so.entry_is has.well in
     let all_sent : is_of_send lines request ≡ true =
     ap (λ (ls : List Line). is_of_send ls request) so.here.are ∙ same_send cur _ request so.here.right (so.here.sound.sends request sent) ∙ sent in
     let apart : NoneStands lines request (done_by placed placed.called) =
     none_stands lines request done (done_by placed placed.called) so.here.all_sound all_sent (none_completed word fields reports request well mine)
     (subst (λ (it : Called). Completes placed fields reports word it) (sym so.called_is)
     (all_done placed word fields reports (ap (λ (e : Entry). e.reports) so.entry_is))) in
-    steps_active request progress placed.line (steps_of run choice placed) holds.distinct
-    (steps_by_keep run choice placed request (number_at run placed) apart)
+    steps_active request progress placed.line steps holds.distinct (has.keeps request apart)
     (still_active lines cur pending progress request last holds sent stays left)
 
-new_active : (run : Run) (choice : Choice) (placed : Placed) (cur : List Line) (word : CallWord) (fields : List Field) (later : List Line) (progress : Progress) (request : ℕ) → GoesSo run choice placed cur word fields later → Distinct progress.active → starts_send_with request (called word fields) ≡ true → is_gone placed.journal.lines request ≡ false → IsActive request (after_steps progress placed.line (steps_of run choice placed))
-new_active run choice placed cur word fields later progress request so distinct starts stays =
-    by_started run choice placed (number_at run placed) request progress placed.line (clear run placed so.goes).numbered
-    (ap (starts_send_with request) so.called_is ∙ starts) stays distinct
-
-call_holds : (run : Run) (choice : Choice) (placed : Placed) (cur : List Line) (word : CallWord) (fields : List Field) (later : List Line) (pending : Option Entry) (progress : Progress) → GoesSo run choice placed cur word fields later → last_entry cur ≡ pending → Holds placed.journal.lines cur pending progress → Holds placed.journal.lines (cur ++ record { word = CallLine word; fields = fields } ∷ []) (Some (entry_of word fields (listing_of later).early)) (after_steps progress placed.line (steps_of run choice placed))
-call_holds run choice placed cur word fields later pending progress so last holds =
+call_holds : (placed : Placed) (cur : List Line) (word : CallWord) (fields : List Field) (later : List Line) (pending : Option Entry) (progress : Progress) (steps : List Step) → GoesSo placed cur word fields later → last_entry cur ≡ pending → Holds placed.journal.lines cur pending progress → HasSteps (KindAt (cur ++ record { word = CallLine word; fields = fields } ∷ [])) placed progress steps → Holds placed.journal.lines (cur ++ record { word = CallLine word; fields = fields } ∷ []) (Some (entry_of word fields (listing_of later).early)) (after_steps progress placed.line steps)
+call_holds placed cur word fields later pending progress steps so last holds has =
     let line : Line = record { word = CallLine word; fields = fields } in
     record {
-      kinds = steps_written (KindAt (cur ++ line ∷ [])) progress placed.line (steps_of run choice placed)
-          (steps_kinds (KindAt (cur ++ line ∷ [])) run choice placed (number_at run placed)
-          (subst (λ (it : Called). PassOwn (StepKind (KindAt (cur ++ line ∷ []))) it) (sym so.called_is)
-          (own_kinds cur word fields (called word fields) refl so.here.sound (called_numbers cur word fields so.here.right.0))))
-          (later_written cur line progress.records so.here.right.0 holds.kinds);
-      distinct = steps_distinct progress placed.line (steps_of run choice placed) holds.distinct;
+      kinds = steps_written (KindAt (cur ++ line ∷ [])) progress placed.line steps has.kinds (later_written cur line progress.records so.here.right.0 holds.kinds);
+      distinct = steps_distinct progress placed.line steps holds.distinct;
       active = λ request sent stays earlier mine. either request sent stays (sym (earlier_after_call cur word fields request) ∙ earlier) mine;
     }
   where
-    either : (request : ℕ) → is_of_send (cur ++ record { word = CallLine word; fields = fields } ∷ []) request ≡ true → is_gone placed.journal.lines request ≡ false → is_completed cur request ≡ false → completed_last (Some (entry_of word fields (listing_of later).early)) request ≡ false → IsActive request (after_steps progress placed.line (steps_of run choice placed))
+    either : (request : ℕ) → is_of_send (cur ++ record { word = CallLine word; fields = fields } ∷ []) request ≡ true → is_gone placed.journal.lines request ≡ false → is_completed cur request ≡ false → completed_last (Some (entry_of word fields (listing_of later).early)) request ≡ false → IsActive request (after_steps progress placed.line steps)
     either request sent stays left mine =
         elim (cases_Bool (is_of_send cur request)) [
-          | inl before ↦ send_active run choice placed cur word fields later pending progress request so last holds before stays left mine
-          | inr not_before ↦ new_active run choice placed cur word fields later progress request so holds.distinct
-              (either_true (is_of_send cur request) (starts_send_with request (called word fields))
-              (sym (send_push cur (record { word = CallLine word; fields = fields }) request) ∙ sent) not_before) stays
+          | inl before ↦ send_active placed cur word fields later pending progress steps request so last holds has before stays left mine
+          | inr not_before ↦
+              let starts = either_true (is_of_send cur request) (starts_send_with request (called word fields))
+              (sym (send_push cur (record { word = CallLine word; fields = fields }) request) ∙ sent) not_before in
+              has.starts request (ap (starts_send_with request) so.called_is ∙ starts) stays holds.distinct
         ]
+
+-- ---- Sinks ----
+
+alone_sends_none : (request : ℕ) (it : Called) → awaits_alone it ≡ true → starts_send_with request it ≡ false
+alone_sends_none request (Receives awaited) h = refl
+alone_sends_none request (StartsReceive own awaited) h = refl
+alone_sends_none request (Probes awaited) h = refl
+alone_sends_none request (ProbesMatching message awaited) h = refl
+alone_sends_none request _ h = absurd (false≢true h)
+
+sink_steps : (P : ℕ → Bool → Type 0) (run : Run) (placed : Placed) (progress : Progress) (wanted : Wanted) (steps : List Step) → IsUnsure run placed wanted → ((request : ℕ) → starts_send_with request placed.called ≡ false) → AllSteps (StepKind P) steps → ((request : ℕ) → AllSteps (Keeps request) steps) → HasSteps P placed progress steps
+sink_steps P run placed progress wanted steps is none kinds keeps = record {
+  well = (sound_is run placed is.sound).well;
+  kinds = kinds;
+  keeps = λ request apart. keeps request;
+  starts = λ request h stays distinct. absurd (false≢true (sym (none request) ∙ h));
+}
+
+halves_active : (placed : Placed) (wanted : Wanted) (request received : ℕ) (sent : Sent) (progress : Progress) → is_gone placed.journal.lines request ≡ false → Distinct progress.active → IsActive request (after_steps progress placed.line (started_halves placed wanted request received sent))
+halves_active placed wanted request received sent progress stays distinct =
+    rw stays (started_active request progress placed.line (start_send Standard wanted.comm sent) (sinks placed wanted (Some received) ∷ []) distinct (tt, tt))
+
+halves_start : (placed : Placed) (wanted : Wanted) (request received other : ℕ) (sent : Sent) (progress : Progress) → (request == other) ≡ true → is_gone placed.journal.lines other ≡ false → Distinct progress.active → IsActive other (after_steps progress placed.line (started_halves placed wanted request received sent))
+halves_start placed wanted request received other sent progress same stays distinct =
+    subst (λ (n : ℕ). IsActive n (after_steps progress placed.line (started_halves placed wanted request received sent))) (eqb-true request other same)
+    (halves_active placed wanted request received sent progress
+    (subst (λ (n : ℕ). is_gone placed.journal.lines n ≡ false) (sym (eqb-true request other same)) stays) distinct)
+
+halves_all : (S : Step → Type 0) (placed : Placed) (wanted : Wanted) (request received : ℕ) (sent : Sent) → S (starts_half wanted (Own request) sent) → S (sinks placed wanted (Some received)) → AllSteps S (started_halves placed wanted request received sent)
+halves_all S placed wanted request received sent first other =
+    all_append S (if is_gone placed.journal.lines request then [] else starts_half wanted (Own request) sent ∷ []) (sinks placed wanted (Some received) ∷ [])
+    (all_if S (is_gone placed.journal.lines request) [] (starts_half wanted (Own request) sent ∷ []) tt (first, tt)) (other, tt)
+
+halves_steps : (P : ℕ → Bool → Type 0) (run : Run) (placed : Placed) (progress : Progress) (wanted : Wanted) (request received : ℕ) (sent : Sent) (awaited : Awaited) → placed.called ≡ StartsExchange request received sent awaited → IsUnsure run placed wanted → PassOwn (StepKind P) placed.called → HasSteps P placed progress (started_halves placed wanted request received sent)
+halves_steps P run placed progress wanted request received sent awaited called is own = record {
+  well = (sound_is run placed is.sound).well;
+  kinds = halves_all (StepKind P) placed wanted request received sent ((subst (λ (it : Called). PassOwn (StepKind P) it) called own).0 wanted.comm) tt;
+  keeps = λ other apart. halves_all (Keeps other) placed wanted request received sent tt tt;
+  starts = λ other h stays distinct.
+      halves_start placed wanted request received other sent progress (sym (ap (starts_send_with other) called) ∙ h) stays distinct;
+}
 
 -- ---- Entries ----
 
@@ -450,6 +506,32 @@ on_outcome : (run : Run) (choice : Choice) (placed : Placed) (progress : Progres
 on_outcome run choice placed progress (Some why) others is rest = tt
 on_outcome run choice placed progress None others is rest =
     on_end (is_end placed.called) progress placed.line (WaitsForLate ∷ []) _ None (steps_of run choice placed) others (rest is)
+
+-- what comes after the entry is so, if it is so after each list of such steps
+abbrev RestFits : (ℕ → Bool → Type 0) → Placed → Progress → (Progress → Type 0) → Type 0
+RestFits P placed progress others = (steps : List Step) → HasSteps P placed progress steps → others (after_steps progress placed.line steps)
+
+on_sinks : (P : ℕ → Bool → Type 0) (run : Run) (placed : Placed) (progress : Progress) (others : Progress → Type 0) → PassOwn (StepKind P) placed.called → RestFits P placed progress others → PassSinks run placed (λ outcome. FitsOn progress placed.line outcome others)
+on_sinks P run placed progress others own rest = record {
+  ended = λ why. tt;
+  ended_by_both = λ wanted is sent awaited called. tt;
+  nothing = λ wanted is alone.
+      rest [] (sink_steps P run placed progress wanted [] is (λ request. alone_sends_none request placed.called alone) tt (λ request. tt));
+  alone = λ wanted is alone one.
+      rest (sinks placed wanted one ∷ [])
+      (sink_steps P run placed progress wanted (sinks placed wanted one ∷ []) is (λ request. alone_sends_none request placed.called alone) (tt, tt) (λ request. (tt, tt)));
+  both = λ wanted is sent awaited called.
+      rest (both_halves placed wanted sent)
+      (sink_steps P run placed progress wanted (both_halves placed wanted sent) is (λ request. ap (starts_send_with request) called) (tt, (tt, tt)) (λ request. (tt, (tt, tt))));
+  halves = λ wanted is request received sent awaited called.
+      rest (started_halves placed wanted request received sent) (halves_steps P run placed progress wanted request received sent awaited called is own);
+}
+
+entry_tests : (P : ℕ → Bool → Type 0) (run : Run) (choice : Choice) (placed : Placed) (progress : Progress) (others : Progress → Type 0) → PassOwn (StepKind P) placed.called → RestFits P placed progress others → FitsOn progress placed.line (outcome_in run choice progress.records placed) others
+entry_tests P run choice placed progress others own rest =
+    in_passes run choice progress.records placed (λ outcome. FitsOn progress placed.line outcome others)
+    (on_outcome run choice placed progress (why_at run placed) others refl (λ goes. rest (steps_of run choice placed) (has_steps P run choice placed progress own goes)))
+    (on_sinks P run placed progress others own rest)
 
 -- where some lines of a rank's journal were gone through
 record IsThere (run : Run) (journal : Journal) (cur lines : List Line) (pending : Option Entry) (progress : Progress) : Type 0 where
@@ -467,16 +549,17 @@ put_tests run choice rank journal number comms cur (CallLine word) fields lines 
     let here : IsCall journal.lines cur word fields lines = record { are = there.are; right = there.right; sound = there.sound; all_sound = there.all_sound } in
     let last = pending_done cur word fields lines pending there.last in (
       test_fits choice placed cur word fields lines pending progress (called word fields) here last there.holds (called_numbers cur word fields there.right.0),
-      on_outcome run choice placed progress (why_at run placed)
-          (λ after. TestsFit run choice after (entries_from rank journal (number + 1) (after_line comms line) lines)) refl
-          (λ goes. rest (Some (entry_of word fields (listing_of lines).early)) (after_steps progress placed.line (steps_of run choice placed))
+      entry_tests (KindAt (cur ++ line ∷ [])) run choice placed progress
+          (λ after. TestsFit run choice after (entries_from rank journal (number + 1) (after_line comms line) lines))
+          (own_kinds cur word fields (called word fields) refl there.sound (called_numbers cur word fields there.right.0))
+          (λ steps has. rest (Some (entry_of word fields (listing_of lines).early)) (after_steps progress placed.line steps)
           (record {
             are = there.are ∙ sym (append_assoc cur (line ∷ []) lines);
             right = there.right.1;
             sound = sound_push cur line there.right.0 there.sound;
             all_sound = there.all_sound;
             last = pending_call cur word fields lines;
-            holds = call_holds run choice placed cur word fields lines pending progress (record { here = here; called_is = refl; entry_is = refl; goes = goes }) last there.holds;
+            holds = call_holds placed cur word fields lines pending progress steps (record { here = here; called_is = refl; entry_is = refl }) last there.holds has;
           })),
     )
 put_tests run choice rank journal number comms cur (Report word) fields lines pending progress there rest =

@@ -27,7 +27,8 @@ use Rattle.closing.specs.Numbers.{groups_of}
 use Rattle.closing.specs.Steps.{Step, Does, WaitsForLate, Progress, after_steps}
 use Rattle.closing.specs.Endings.{breaks_off, can_be, first_of, is_unknown, is_unreported, lacks_number, needs_number, number_at, why_at}
 use Rattle.closing.specs.Entry.{Choice, Here, here_at, maker, on_comm, steps_by, steps_of}
-use Rattle.closing.specs.Recording.{Listed, GoesOn, Ends, is_end, steps_before, outcome_by, outcome_of, go_on, list_from}
+use Rattle.closing.specs.Recording.{Listed, is_end, steps_before, outcome_by, outcome_in, go_on, list_from}
+use Rattle.closing.specs.Sinks.{Outcome, GoesOn, Ends}
 use Rattle.closing.specs.declared.why.Why.{Why}
 use Rattle.closing.specs.declared.why.Why.TheVariants.{NeverCameBack, NeverReported, Failed, NoNumber, CannotBe}
 use Rattle.lawful.proofs.StepLemmas.{calls_in, added_plain}
@@ -35,7 +36,8 @@ use Rattle.lawful.proofs.HoldLemmas.{AllHold}
 use Rattle.lawful.proofs.LineFacts.{WordFits, LineFits, LinesFit}
 use Rattle.lawful.proofs.KeptLemmas.{Ready, Kept, KeptBy, kept_call, report_kept}
 use Rattle.lawful.proofs.CalledLemmas.{MakesGroup, called_group}
-use Rattle.lawful.proofs.SafeLemmas.{GroupOk, next_ok, own_at, waits_keep, steps_of_keep}
+use Rattle.lawful.proofs.SafeLemmas.{GroupOk, KeptAfter, next_ok, own_at, sinks_keep, waits_keep, steps_of_keep}
+use Rattle.lawful.proofs.SinkCases.{awaits_makes_none, by_lists, in_passes}
 use Rattle.lawful.proofs.MakerLemmas.{early_fit}
 use Rattle.lawful.proofs.EntryLemmas.{waves_after, maker_after, reported_made}
 
@@ -150,14 +152,18 @@ record Stands (rank : ℕ) (placed : Placed) (lines : List Line) : Type 0 where
   reports_are : placed.entry.reports ≡ (listing_of lines).early
   fit : LinesFit rank lines
 
-other_went : (run : Run) (choice : Choice) (rank : ℕ) (placed : Placed) (lines : List Line) (progress : Progress) → rank < length run → Stands rank placed lines → makes_comm placed.called ≡ false → KeptBy run rank placed.comms (calls_in progress) → Went run rank placed lines (calls_in (after_steps progress placed.line (steps_of run choice placed)))
-other_went run choice rank placed lines progress within stands makes_not kept = record {
-  kept = kept_call run rank placed.comms (calls_in (after_steps progress placed.line (steps_of run choice placed)))
-      (option_map (λ (wave : Wave). wave.parent) (wave_next placed.comms placed.called)) (key_next placed.comms placed.called)
-      (steps_of_keep run choice rank placed progress within makes_not stands.group_ok kept)
+other_went_by : (run : Run) (rank : ℕ) (placed : Placed) (lines : List Line) (steps : List Step) (progress : Progress) → Stands rank placed lines → makes_comm placed.called ≡ false → KeptAfter run rank placed progress steps → Went run rank placed lines (calls_in (after_steps progress placed.line steps))
+other_went_by run rank placed lines steps progress stands makes_not kept = record {
+  kept = kept_call run rank placed.comms (calls_in (after_steps progress placed.line steps))
+      (option_map (λ (wave : Wave). wave.parent) (wave_next placed.comms placed.called)) (key_next placed.comms placed.called) kept
       (λ key h. next_ok (length run) rank placed.comms placed.called key stands.group_ok h);
   pending = λ wave wave_is own_is line found. absurd (none-some wave (rw makes_not at wave_is));
 }
+
+other_went : (run : Run) (choice : Choice) (rank : ℕ) (placed : Placed) (lines : List Line) (progress : Progress) → rank < length run → Stands rank placed lines → makes_comm placed.called ≡ false → KeptBy run rank placed.comms (calls_in progress) → Went run rank placed lines (calls_in (after_steps progress placed.line (steps_of run choice placed)))
+other_went run choice rank placed lines progress within stands makes_not kept =
+    other_went_by run rank placed lines (steps_of run choice placed) progress stands makes_not
+    (steps_of_keep run choice rank placed progress within makes_not stands.group_ok kept)
 
 maker_went_by : (run : Run) (choice : Choice) (rank comm : ℕ) (placed : Placed) (lines : List Line) (progress : Progress) → Stands rank placed lines → makes_comm placed.called ≡ true → number_at run placed ≡ Some comm → KeptBy run rank placed.comms (calls_in progress) → Went run rank placed lines (calls_in (after_steps progress placed.line (Does (maker run placed comm) ∷ [])))
 maker_went_by run choice rank comm placed lines progress stands makes_one is kept =
@@ -220,9 +226,14 @@ entry_holds_by run choice rank placed lines progress others (Some why) is within
 entry_holds_by run choice rank placed lines progress others None is within stands kept rest =
     gone_on run choice rank placed lines progress others (is_end placed.called) within stands is kept rest
 
-entry_holds : (run : Run) (choice : Choice) (rank : ℕ) (placed : Placed) (lines : List Line) (progress : Progress) (others : Progress → Listed) → rank < length run → Stands rank placed lines → KeptBy run rank placed.comms (calls_in progress) → Rest run rank placed lines others → RecordsHold run rank (go_on progress placed.line (outcome_of run choice placed) others)
+entry_holds : (run : Run) (choice : Choice) (rank : ℕ) (placed : Placed) (lines : List Line) (progress : Progress) (others : Progress → Listed) → rank < length run → Stands rank placed lines → KeptBy run rank placed.comms (calls_in progress) → Rest run rank placed lines others → RecordsHold run rank (go_on progress placed.line (outcome_in run choice progress.records placed) others)
 entry_holds run choice rank placed lines progress others within stands kept rest =
-    entry_holds_by run choice rank placed lines progress others (why_at run placed) refl within stands kept rest
+    in_passes run choice progress.records placed (λ (outcome : Outcome). RecordsHold run rank (go_on progress placed.line outcome others))
+    (entry_holds_by run choice rank placed lines progress others (why_at run placed) refl within stands kept rest)
+    (by_lists run placed (KeptAfter run rank placed progress) (λ (outcome : Outcome). RecordsHold run rank (go_on progress placed.line outcome others))
+    (λ steps after awaits. rest (after_steps progress placed.line steps)
+    (other_went_by run rank placed lines steps progress stands (awaits_makes_none placed.called awaits) after))
+    (λ steps why after. after.all) (sinks_keep run rank placed progress stands.group_ok kept))
 
 -- ---- Lines ----
 

@@ -4,4 +4,5 @@ pub mod Free
 pub mod Laws
 pub mod Plain
 pub mod Same
+pub mod SinkPlaces
 pub mod SoFar

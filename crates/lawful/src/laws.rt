@@ -2,10 +2,11 @@
 
 ghost use Rattle.lawful.specs.Closed.{EachRecordingIsClosed, OneNumberIsOneCommunicator, NoOtherFault, EachListInRangesReadsBack, EachHeadIsAHead, EachListIsInRanges};
 ghost use Rattle.lawful.specs.Fit.{EachRunThatWasReadIsFit};
-ghost use Rattle.lawful.specs.Free.{EachFinalizeIsAnEnd, WhatIsLeftIsOpen, WhatIsNotLeftIsAnEnd, WhatIsFreeIsWhole};
+ghost use Rattle.lawful.specs.Free.{EachFinalizeIsAnEnd, EachFinalizeIsListedThrough, WhatIsGoneThroughEnds, WhatIsLeftIsOpen, WhatIsNotLeftIsAnEnd, WhatIsFreeIsWhole, SinksAloneAreLeft, NothingIsLeft};
 ghost use Rattle.lawful.specs.Laws.{EachRecordingIsLawful, EachRecordingReadsBack};
 ghost use Rattle.lawful.specs.Plain.{EachPlainJournalStaysTheSame};
 ghost use Rattle.lawful.specs.Same.{OneNumberExactlyIfTheSame, CallsAreOnOneNumberExactlyIfOnOne, EachNumberHasItsGroup};
+ghost use Rattle.lawful.specs.SinkPlaces.{EachSinkHasItsPlace, NoneIsBehindASink, SinksAreInOrder};
 ghost use Rattle.lawful.specs.SoFar.{WhatIsSoFarStays};
 
 /// There is a list for each rank of the head, each has an end, and nothing comes after it.
@@ -48,9 +49,19 @@ pub fn each_recording_reads_back()
     ensures { EachRecordingReadsBack }
 {}
 
-/// A list ends with `finalize` exactly if its journal was gone through to the rank's end.
+/// Without sinks a list ends with `finalize` exactly if its journal was gone through to the rank's end.
 pub fn each_finalize_is_an_end()
     ensures { EachFinalizeIsAnEnd }
+{}
+
+/// With sinks too, a list ends with `finalize` if its journal was gone through to the rank's end.
+pub fn what_is_gone_through_ends()
+    ensures { WhatIsGoneThroughEnds }
+{}
+
+/// With sinks or without, a list ends with `finalize` exactly if no entry ends it before that, by the sinks before each.
+pub fn each_finalize_is_listed_through()
+    ensures { EachFinalizeIsListedThrough }
 {}
 
 /// Where it is told why a list ends, the list is left open.
@@ -66,6 +77,16 @@ pub fn what_is_not_left_is_an_end()
 /// If no list is left open, each rank's journal goes to its end, and it is told of none why it ends before that.
 pub fn what_is_free_is_whole()
     ensures { WhatIsFreeIsWhole }
+{}
+
+/// If no list is left open, what is left are entries of sinks.
+pub fn sinks_alone_are_left()
+    ensures { SinksAloneAreLeft }
+{}
+
+/// If no list is left open and lists have no sinks, nothing is left.
+pub fn nothing_is_left()
+    ensures { NothingIsLeft }
 {}
 
 /// A communicator has the number of another exactly if the two are the same.
@@ -96,4 +117,19 @@ pub fn what_is_so_far_stays()
 /// What the making of a recording rests on is true of each run that was read.
 pub fn each_run_that_was_read_is_fit()
     ensures { EachRunThatWasReadIsFit }
+{}
+
+/// In the place of a sink stands the start of a receive from nobody, whose request is active at the end of the list.
+pub fn each_sink_has_its_place()
+    ensures { EachSinkHasItsPlace }
+{}
+
+/// The sinks of a list are in the order of their places.
+pub fn sinks_are_in_order()
+    ensures { SinksAreInOrder }
+{}
+
+/// No receive or probe behind a sink is of a message that the sink may take.
+pub fn none_is_behind_a_sink()
+    ensures { NoneIsBehindASink }
 {}

@@ -8,6 +8,7 @@
 //!
 //! `specs/Free` has how lists end and what is told free, `specs/Same` which calls are on one communicator. `specs/Plain`
 //! says that journals of plain calls stay the same, `specs/SoFar` that what they have so far stays when they go on.
+//! `specs/SinkPlaces` has what sinks have in the lists that `judge` goes by: their places, and what is behind them.
 //!
 //! Lemmas: `RequestLemmas` what one call changes about requests, `StepLemmas` what a step adds, `TableLemmas` that
 //! entries give such steps, `ListLemmas` all calls of a list, `PassLemmas` lists whose records pass a test, `NameLemmas`
@@ -27,6 +28,11 @@
 //! has steps that start new requests, `NamedRequests` what waits and tests name, `ActiveSends`, `OwnSteps` and `TestLemmas`
 //! what a test finds in the list. `CommGroups` and `CommsFit` have the groups of communicators, `FitLemmas` all together.
 //! `ReadRuns` has what crates above cite of runs that were read.
+//!
+//! `SinkCases` has what comes of an entry by the sinks before it, and that a test of it passes if four lists of steps do;
+//! `NoSinks` that entries stand for the same where no sink is before them. `SinkPairs` has what a sink has with each later
+//! record: `SinksKept` that it leaves the request alone, `SinksApart` that it takes no message of the sink, `SinkLaws` both
+//! with the places.
 #![tactic(auto)]
 
 pub mod laws;

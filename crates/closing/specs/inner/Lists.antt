@@ -6,7 +6,7 @@ use Rattle.mpicall.specs.declared.call.Call.{Call}
 use Rattle.mpicall.specs.declared.call.Call.TheVariants.{Isend, Irecv, Icoll}
 use Rattle.closing.specs.Fit.{starts_send}
 use Rattle.closing.specs.Freed.{starts_one_of}
-use Rattle.closing.specs.Steps.{Id, Own, Whole, ReceiveHalf, Written, Progress, number_in, has_number, least_free, without, without_all, numbers_of}
+use Rattle.closing.specs.Steps.{Id, Own, Whole, ReceiveHalf, Sink, Written, Progress, number_in, has_number, least_free, without, without_all, numbers_of}
 use Rattle.closing.specs.inner.Free.{Requests, AreNumbered}
 use Rattle.mpicall.specs.declared.limits.TheConstants.{GREATEST_REQUEST}
 use Rattle.closing.specs.declared.freed.Freed.{Freed}
@@ -36,6 +36,7 @@ abbrev pub IsUnnamed : Id → Type 0
 IsUnnamed (Own request) = ⊥
 IsUnnamed (Whole line) = Unit {0}
 IsUnnamed (ReceiveHalf line) = Unit {0}
+IsUnnamed (Sink own wanted is_known) = Unit {0}
 
 -- ---- Records and requests ----
 

@@ -1,5 +1,5 @@
 -- The list of a rank so far, as it is kept, against the list of the definitions.
-use Rattle.std.specs.Prelude.{◌≡◌, ℕ, ◌+◌, ◌<◌, ◌≤◌, Bool, true, false, None, Some, Option, option_map, Result, Ok, Err, List, [], ◌++◌, length, map, take, drop, slice_get}
+use Rattle.std.specs.Prelude.{◌≡◌, ℕ, ◌+◌, ◌<◌, ◌≤◌, Bool, true, false, None, Some, Option, option_map, Result, Ok, Err, List, [], ◌∷◌, ◌++◌, length, map, take, drop, slice_get}
 use Rattle.mpicall.specs.declared.call.Call.{Call}
 use Rattle.mpicall.specs.declared.call.Call.TheVariants.{Finalize}
 use Rattle.journals.specs.Lines.{Line}
@@ -17,7 +17,8 @@ use Rattle.closing.specs.RankComms.{RankComms, comms_first, after_lines}
 use Rattle.closing.specs.Entries.{Run, Placed, placed_at, entries_from, journal_at, lines_at}
 use Rattle.closing.specs.Entry.{Choice, matched_message}
 use Rattle.closing.specs.Steps.{Id, Own, Written, Progress, Step, after_steps}
-use Rattle.closing.specs.Recording.{Listed, Outcome, GoesOn, Ends, calls_of, list_from, list_of, outcome_of, whole_list}
+use Rattle.closing.specs.Recording.{Listed, calls_of, list_from, list_of, outcome_in, whole_list}
+use Rattle.closing.specs.Sinks.{Outcome, GoesOn, Ends}
 use Rattle.closing.specs.Fit.{EntriesFit, IsFit, TestsFit}
 use Rattle.closing.specs.Freed.{is_freed}
 use Rattle.closing.specs.Recordings.{left_in, line_at}
@@ -27,18 +28,20 @@ use Rattle.closing.specs.inner.Noted.{AreReports, IsLastCall, reports_in}
 use Rattle.closing.specs.inner.Numbered.{IsNumberedRun}
 use Rattle.closing.specs.inner.RequestReports.{Tells}
 use Rattle.closing.specs.inner.Standings.{message_for}
+use Rattle.closing.specs.inner.Taken.{IsKept, IsKnown, StopsKept}
 use Rattle.closing.specs.Table.{Table}
 use Rattle.closing.specs.inner.Table.{Grows, IsPlaceOf, IsWaveOf}
 use Rattle.closing.specs.inner.Walked.{Follows, IsAt, number_of, size_of}
 use Rattle.closing.specs.inner.Walks.{spot_of}
 use Rattle.closing.specs.declared.list.List.{List as ListCode}
 use Rattle.closing.specs.declared.stop.Stop.{Stop}
-use Rattle.closing.specs.declared.stop.Stop.TheVariants.{Memory}
+use Rattle.closing.specs.declared.stop.Stop.TheVariants.{Left, Memory}
 use Rattle.closing.specs.declared.numbers.Communicators.{Communicators}
 use Rattle.closing.specs.declared.numbers.Named.{Named}
 use Rattle.closing.specs.declared.walk.At.{At}
 use Rattle.closing.specs.declared.walk.Entry.{Entry as EntryCode}
 use Rattle.closing.specs.declared.walk.Walk.{Walk}
+use Rattle.closing.specs.declared.why.Why.{Why}
 
 -- ---- By places of lines ----
 
@@ -64,6 +67,11 @@ abbrev pub AreOfLine : ℕ → ℕ → List Written → Type 0
 AreOfLine line before records =
     (place : ℕ) → before ≤ place → place < length records → option_map (λ it. it.line) (slice_get records place) ≡ Some line
 
+-- each is of a line before this
+abbrev pub AreEarlier : ℕ → List Written → Type 0
+AreEarlier line [] = Unit {0}
+AreEarlier line (one ∷ records) = (one.line < line) × AreEarlier line records
+
 -- the list has these calls one after the others, and from a place on those that came so far are of a line
 pub record HasCalls (listed : Listed) (handed items rest : List Call) (before line : ℕ) : Type 0 where
   pub calls : calls_of listed ≡ handed ++ (items ++ rest)
@@ -77,6 +85,8 @@ pub record IsSoFar (run : Run) (choice : Choice) (journal : Journal) (table : Ta
   pub frees : handed.frees ≡ is_freed journal.lines
   pub stands : Stands handed progress walk.list
   pub late : map Own walk.late.items ≡ progress.late
+  pub kept : IsKept progress.records walk
+  pub earlier : AreEarlier (walk.next + 2) progress.records
   pub list : list_from run choice progress (entries_left walk.rank journal walk.next) ≡ whole_list run choice walk.rank
   pub fit : EntriesFit run choice progress (entries_left walk.rank journal walk.next)
   pub tests : TestsFit run choice progress (entries_left walk.rank journal walk.next)
@@ -115,6 +125,7 @@ pub record IsWalk (run : Run) (choice : Choice) (table : Table) (walk : Walk) : 
   pub part : IsPart (list_of run choice walk.rank) walk
   pub on : walk.is_over ≡ false → IsOn run choice table walk
   pub freed : walk.is_over ≡ true → HasPlaces (is_freed (lines_at run walk.rank)) (list_of run choice walk.rank).records walk.list.freed
+  pub known : walk.is_over ≡ true → IsKnown run choice walk
 
 -- ---- An entry ----
 
@@ -147,6 +158,7 @@ pub record HasNamed (run : Run) (table : Table) (placed : Placed) (named : Optio
 pub record IsAtEntry (run : Run) (choice : Choice) (placed : Placed) (kept : Communicators) (it : At) : Type 0 where
   pub at : IsAt (spot_of run choice placed) it
   pub numbered : IsNumberedRun run kept
+  pub came_back : placed.came_back ≡ it.came_back
   pub named : IsPlaceOf kept.keys (option_map (λ (one : Named). one.key) it.named) (named_key placed)
   pub wave : IsWaveOf kept.keys it.wave (wave_at placed)
   pub made : IsPlaceOf kept.keys it.made (key_made run placed)
@@ -163,6 +175,8 @@ Entered (Err stop) outcome handed progress line it = Follows {A = Bool} outcome 
 -- what else is known of a rank at an entry: how far its list came, and that the entry fits
 pub record IsReady (run : Run) (choice : Choice) (journal : Journal) (handed : Handed) (progress : Progress) (walk : Walk) (entry : EntryCode) : Type 0 where
   pub fit : IsFit run choice
+  pub line : walk.line ≡ entry.place + 2
+  pub kept : IsKept progress.records walk
   pub stands : Stands handed progress walk.list
   pub late : map Own walk.late.items ≡ progress.late
   pub entries : EntriesFit run choice progress (entries_left walk.rank journal entry.place)
@@ -171,14 +185,18 @@ pub record IsReady (run : Run) (choice : Choice) (journal : Journal) (handed : H
   pub requests : (request : ℕ) → message_for walk.requests request ≡ matched_message (take entry.place journal.lines) request
 
 -- what is kept after an entry with which the list goes on
-pub record StaysOn (table : Table) (lines : List Line) (place : ℕ) (late : List Id) (walk : Walk) : Type 0 where
+pub record StaysOn (table : Table) (lines : List Line) (place : ℕ) (records : List Written) (late : List Id) (walk : Walk) : Type 0 where
+  pub kept : IsKept records walk
   pub comms : HasComms table walk.comms (comms_at walk.rank lines place)
   pub late_is : map Own walk.late.items ≡ late
   pub requests : (request : ℕ) → message_for walk.requests request ≡ matched_message (take place lines) request
 
 -- what is known after an entry: of its list, of what is kept where that goes on, and of the keys unless memory ran out
 pub record IsEntered (run : Run) (choice : Choice) (placed : Placed) (result : Result Bool Stop) (handed : Handed) (progress : Progress) (old now : Table) (place : ℕ) (walk : Walk) : Type 0 where
-  pub list : Entered result (outcome_of run choice placed) handed progress placed.line walk.list
-  pub on : (steps : List Step) → result ≡ Ok false → outcome_of run choice placed ≡ GoesOn steps
-      → StaysOn now placed.journal.lines place (after_steps progress placed.line steps).late walk
+  pub list : Entered result (outcome_in run choice progress.records placed) handed progress placed.line walk.list
+  pub on : (steps : List Step) → result ≡ Ok false → outcome_in run choice progress.records placed ≡ GoesOn steps
+      → StaysOn now placed.journal.lines place (after_steps progress placed.line steps).records (after_steps progress placed.line steps).late walk
+  pub done : (steps : List Step) (end : Call) (why : Option Why) → result ≡ Ok true → outcome_in run choice progress.records placed ≡ Ends steps end why
+      → IsKept (after_steps progress placed.line steps).records walk
+  pub stopped : (why : Why) → result ≡ Err (Left why) → StopsKept run choice placed (outcome_in run choice progress.records placed) why progress walk
   pub grows : (result ≡ Err Memory → ⊥) → Grows old now

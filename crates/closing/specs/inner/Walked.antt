@@ -7,7 +7,7 @@ use Rattle.journals.specs.declared.field.Field.{Field}
 use Rattle.closing.specs.Called.{Called, StartsMatched, Tests, MakesOfGroup, comm_of, naturals_in}
 use Rattle.closing.specs.Entry.{Choice, passes_tests}
 use Rattle.closing.specs.Steps.{Id, Own, Progress, Step, PutsOff, after_steps}
-use Rattle.closing.specs.Recording.{Outcome, GoesOn, Ends}
+use Rattle.closing.specs.Sinks.{Outcome, GoesOn, Ends}
 use Rattle.closing.specs.Fit.{AllFit, AllHaveKind, steps_in, waited}
 use Rattle.closing.specs.inner.Lists.{Handed, Stands, IsCut, ComesTo}
 use Rattle.closing.specs.Reported.{Message as Said}

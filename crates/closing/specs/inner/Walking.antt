@@ -4,7 +4,8 @@ use Rattle.mpicall.specs.declared.call.Call.TheVariants.{Open}
 use Rattle.closing.specs.Entries.{Run, Placed}
 use Rattle.closing.specs.Steps.{Progress, after_steps}
 use Rattle.closing.specs.Entry.{Choice}
-use Rattle.closing.specs.Recording.{Listed, Outcome, GoesOn, Ends, ended, outcome_of}
+use Rattle.closing.specs.Recording.{Listed, ended, outcome_in}
+use Rattle.closing.specs.Sinks.{Outcome, GoesOn, Ends}
 
 -- the list came so far, or has ended
 pub data Course : Type 0 where
@@ -17,7 +18,7 @@ course_with progress line (Ends steps end why) = Stops (ended (after_steps progr
 
 -- after a next entry
 abbrev pub course_after : Run → Choice → Course → Placed → Course
-course_after run choice (Comes progress) placed = course_with progress placed.line (outcome_of run choice placed)
+course_after run choice (Comes progress) placed = course_with progress placed.line (outcome_in run choice progress.records placed)
 course_after run choice (Stops list) placed = Stops list
 
 abbrev pub course_from : Run → Choice → Course → List Placed → Course

@@ -16,7 +16,7 @@ use Rattle.closing.specs.Reported.{Message, done_of, got_in, is_gone, is_settled
 use Rattle.closing.specs.Steps.{Own, Whole, ReceiveHalf, Step, Does, Starts}
 use Rattle.closing.specs.Endings.{size_at, number_at, sent_can_be, awaited_can_be}
 use Rattle.closing.specs.Entry.{Choice, send, start_send, receive, start_receive, exchange, probe, start_collective, kind_of, is_past, maker, unless_past, wait_for_all, wait_for_any, test}
-use Rattle.closing.specs.Recording.{Outcome, GoesOn, Ends}
+use Rattle.closing.specs.Sinks.{Outcome, GoesOn, Ends}
 use Rattle.closing.specs.declared.why.Why.{Why}
 use Rattle.closing.specs.declared.why.Why.TheVariants.{NeverCameBack, NeverReported, NoNumber, CannotBe}
 

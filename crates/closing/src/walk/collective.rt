@@ -2,7 +2,7 @@
 
 ghost use Rattle.std.specs.Prelude.{◌≡◌, IsTrue};
 ghost use Rattle.closing.specs.Entry.{kind_of};
-ghost use Rattle.closing.specs.Recording.{GoesOn};
+ghost use Rattle.closing.specs.Sinks.{GoesOn};
 ghost use Rattle.closing.specs.Reported.{root_can_be};
 ghost use Rattle.closing.specs.inner.RequestReports.{Tells};
 ghost use Rattle.closing.specs.inner.Walked.{IsAt, Takes};

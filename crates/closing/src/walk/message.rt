@@ -7,7 +7,7 @@ ghost use Rattle.closing.specs.Reported.{message_can_be, message_of as message_s
 ghost use Rattle.closing.specs.inner.Views.{awaited_view, message_view, sent_view};
 ghost use Rattle.closing.specs.inner.Walked.{AwaitedOr, IsAt, Takes, known_or, number_at as number_of_at, number_or, size_at};
 ghost use Rattle.closing.specs.inner.Walks.{Spot, exchanges_at, exchanges_on, probes_at, probes_matching_on, probes_on, receives_after, receives_on, sends_on, starts_at, starts_exchange_on, starts_receive_on, starts_send_on};
-ghost use Rattle.closing.specs.Recording.{GoesOn};
+ghost use Rattle.closing.specs.Sinks.{GoesOn};
 ghost use Rattle.closing.specs.inner.RequestReports.{Tells};
 ghost use Rattle.closing.specs.Endings.{awaited_can_be as awaited_may_be, sent_can_be as sent_may_be};
 
@@ -30,7 +30,7 @@ pub(super) struct Halves {
 }
 
 /// The start of a send.
-fn start_of_send(mode: Mode, comm: u16, sent: &Sent) -> Start
+pub(super) fn start_of_send(mode: Mode, comm: u16, sent: &Sent) -> Start
     ensures { IsTrue (peer_can_be 1024 sent.now.dest) → start_call result ≡ start_send mode comm (sent_view sent.now) }
 {
     Start::Send {

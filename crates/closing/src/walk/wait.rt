@@ -5,7 +5,7 @@ ghost use Rattle.std.specs.List.{filter};
 ghost use Rattle.mpicall.specs.Word.{or_else};
 ghost use Rattle.closing.specs.Called.{naturals_in};
 ghost use Rattle.closing.specs.Entry.{ids_of, passes_tests, unless_past, wait_for_one};
-ghost use Rattle.closing.specs.Recording.{GoesOn};
+ghost use Rattle.closing.specs.Sinks.{GoesOn};
 ghost use Rattle.closing.specs.inner.Lists.{is_send_in};
 ghost use Rattle.closing.specs.inner.RequestReports.{AllStandFor, Tells};
 ghost use Rattle.closing.specs.inner.Standings.{message_for};

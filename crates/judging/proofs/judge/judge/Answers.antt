@@ -1,10 +1,13 @@
 -- The report of the run that the files hold.
-use Rattle.std.proofs.Common.{ℕ, List}
+use Rattle.std.proofs.Common.{ℕ, List, sym, subst}
 use Rattle.std.specs.Io.KnownBytes.{Appends}
-use Rattle.judging.specs.Judging.{IsFaultOfJudge, IsJudgedReport}
+use Rattle.judging.specs.Judging.{IsFaultOfJudge, IsJudgedReport, LeavesAt}
+use Rattle.judging.specs.declared.judge.JudgeFault.{JudgeFault}
+use Rattle.judging.specs.inner.Known.{known_in}
 use Rattle.judging.specs.inner.Reported.{IsLate, IsReportedOf}
 use Rattle.judging.specs.inner.Tables.{rows_of}
 use Rattle.judging.proofs.JudgeLemmas.{err_as, if_ok, if_err, judged_report, judge_fault, late_fault}
+use Rattle.judging.proofs.UnwrittenLemmas.{leaves_memory}
 use Rattle.judging.proofs.judge.judge.Goals as goal
 
 pub returns-in_err-analyser-clause-fault : goal.returns-in_err-analyser-clause-fault
@@ -14,6 +17,20 @@ returns-in_err-analyser-clause-fault g c =
     err_as c.from_residual-in_err-analyser.result c.in_err-analyser.field-0.0 (IsFaultOfJudge known) c.from_residual-in_err-analyser.ensures.1
     (judge_fault known c.args.manner c.in_ok-lists.lists.recording lists.run lists.fresh c.in_err-analyser.field-0.0 c.in_err-analyser.ensures.fault c.in_err-analyser.ensures.lawful)
 
+pub returns-in_err-graph-clause-fault : goal.returns-in_err-graph-clause-fault
+returns-in_err-graph-clause-fault g c =
+    let known = g.J.Journals.known c.args.journals.now in
+    err_as c.from_residual-in_err-graph.result c.in_err-graph.field-0.0 (IsFaultOfJudge known) c.from_residual-in_err-graph.ensures.1
+    (subst (λ (fault : JudgeFault). IsFaultOfJudge known fault) (sym c.in_err-graph.ensures.fault) tt)
+
+pub returns-in_err-graph-clause-output : goal.returns-in_err-graph-clause-output
+returns-in_err-graph-clause-output g c =
+    let written = g.O.Output.written in
+    let failures = g.O.Output.failures in
+    let out = c.args.out.now in
+    err_as c.from_residual-in_err-graph.result c.in_err-graph.field-0.0 (LeavesAt written failures out out) c.from_residual-in_err-graph.ensures.1
+    (leaves_memory written failures out c.in_err-graph.field-0.0 c.in_err-graph.ensures.fault)
+
 pub returns-clause-written : goal.returns-clause-written
 returns-clause-written g c =
     let known = g.J.Journals.known c.args.journals.now in
@@ -22,12 +39,13 @@ returns-clause-written g c =
     let it = c.analyser_of.new.lists.recording in
     let rows = rows_of c.analyser_of.new.lists.table in
     let analysed = c.in_ok-analyser.analyser in
+    let pending = known_in c.in_ok-known.known in
     if_ok c.report.result
-    (λ verdict. (report : List ℕ) × IsReportedOf it rows analysed c.args.manner verdict report × Appends (written c.args.out.now) (written c.report.new.out) report)
+    (λ verdict. (report : List ℕ) × IsReportedOf it rows analysed pending c.args.manner verdict report × Appends (written c.args.out.now) (written c.report.new.out) report)
     (λ verdict. (report : List ℕ) × IsJudgedReport known c.args.manner verdict report × Appends (written c.args.out.now) (written c.report.new.out) report)
     (λ verdict of. (
       of.0,
-      judged_report known c.args.manner c.in_ok-lists.lists.recording lists.run lists.fresh it analysed lists.choice c.in_ok-analyser.ensures.all
+      judged_report known c.args.manner c.in_ok-lists.lists.recording lists.run lists.fresh it analysed pending lists.choice c.in_ok-analyser.ensures.all c.in_ok-known.ensures
           rows (λ fresh read json. c.in_ok-analyser.ensures.table fresh read (lists.table json)) verdict of.0 of.1,
       of.2,
     ))

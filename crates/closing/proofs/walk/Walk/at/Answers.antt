@@ -99,6 +99,9 @@ returns-clause-at c = λ said heading is_before same fit.
     (c.in_ok-wave.ensures.wave (comms_at rank lines e.place) is_before.comms on)) in
     let last_is : c.take_reports.new.self.last ≡ c.args.self.now.last = ap (λ (it : Walk). it.last) c.take_reports.ensures.same in
     let choice_is : c.take_reports.new.self.choice.calls ≡ c.args.self.now.choice.calls = ap (λ (it : Walk). it.choice.calls) c.take_reports.ensures.same in
+    let back : placed.came_back ≡ c.came_back.result =
+    came_back_of lines heading.is_outside c.args.self.now.last e.place e.word is_before.last call ∙ ap (λ (it : Option LastCall). came_back_at it e.place) (sym last_is)
+    ∙ sym c.came_back.ensures in
     let past =
     c.is_past.ensures placed
     (came_back_of lines heading.is_outside c.args.self.now.last e.place e.word is_before.last call ∙ ap (λ (it : Option LastCall). came_back_at it e.place) (sym last_is))
@@ -120,4 +123,4 @@ returns-clause-at c = λ said heading is_before same fit.
     let made =
     subst (λ (place : Option ℕ). IsPlaceOf now.keys place (key_made said placed)) (sym c.or.ensures)
     (place_either now.keys c.in_ok-reported.reported c.inferred.result (reported_key placed) (inferred_key said placed) reported inferred) in
-    at_is said (choice_in c.args.self.now.choice) placed now _ numbered fit named wave past got chose made
+    at_is said (choice_in c.args.self.now.choice) placed now _ numbered fit named wave back past got chose made

@@ -1,7 +1,7 @@
 -- The line of the call is put, if its communicator has a number.
 use Rattle.std.proofs.Common.{◌∙◌, ap, sym, true, ℕ, [], ◌∷◌}
 use Rattle.mpicall.specs.declared.call.Call.{Call}
-use Rattle.closing.specs.Recording.{GoesOn}
+use Rattle.closing.specs.Sinks.{GoesOn}
 use Rattle.closing.specs.Steps.{Does}
 use Rattle.closing.specs.inner.Walked.{number_or}
 use Rattle.closing.proofs.FollowLemmas.{goes, puts}

@@ -17,7 +17,7 @@ use Rattle.closing.specs.inner.Table.{Grows, HasKey}
 use Rattle.closing.specs.declared.choice.Choice.{Choice}
 use Rattle.closing.specs.declared.numbers.Communicators.{Communicators}
 use Rattle.closing.specs.declared.walk.Walk.{Walk}
-use Rattle.closing.proofs.BegunLemmas.{IsEmpty, first_of, new_as, new_begun, new_left, readable_lines}
+use Rattle.closing.proofs.BegunLemmas.{HasNone, IsEmpty, first_of, new_as, new_begun, new_left, none_pending, readable_lines}
 use Rattle.closing.proofs.FreedIds.{unnamed_kept}
 use Rattle.closing.proofs.KeptLemmas.{run_grows}
 use Rattle.closing.proofs.TableLemmas.{grows_on}
@@ -100,8 +100,17 @@ returns-clause-walk c = λ said numbered fit within there few.
       before = 0;
       is_over = false;
       left = None;
+      sinks = c.new-5.result;
+      pending = c.unknown.result;
+      left_out = c.new-6.result;
     } in
-    let is_empty : IsEmpty empty = record { handed = refl; before = refl; line = refl; late = c.new-2.ensures.items; left = refl; on = refl } in
+    let none : HasNone empty = record {
+      all = c.new-5.ensures.all;
+      named = c.new-5.ensures.named;
+      pending = none_pending c.unknown.result c.unknown.ensures.all c.unknown.ensures.none;
+      left_out = c.new-6.ensures.items;
+    } in
+    let is_empty : IsEmpty empty = record { handed = refl; before = refl; line = refl; late = c.new-2.ensures.items; left = refl; on = refl; none = none } in
     let listed : put ≡ record empty { list = put.list } = c.in_ok-put_preface.ensures.same in
     let has : HasComms first put.comms (comms_first put.rank) =
     subst (λ (it : Walk). HasComms first it.comms (comms_first it.rank)) (sym listed) (c.in_ok-first.ensures first rank grows.table alone) in

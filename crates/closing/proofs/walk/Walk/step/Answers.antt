@@ -32,7 +32,8 @@ returns-in_default-clause-walk c = with_ok _ _ c.finish.result (λ end. λ said 
     c.in_default.not-Some word (c.call_at.ensures ∙ ap call_if at) in (
       step_opens said choice journal kept s fit numbered few there goes walk new none
           (ap (λ (it : Walk). it.rank) same) (ap (λ (it : Walk). it.handed) same) (ap (λ (it : Walk). it.before) same ∙ before) (ap (λ (it : Walk). it.line) same)
-          (ap (λ (it : Walk). it.left) same) (ap (λ (it : Walk). it.is_over) same) (end refl) c.finish.ensures.freed,
+          (ap (λ (it : Walk). it.left) same) (ap (λ (it : Walk). it.is_over) same) (end refl) c.finish.ensures.freed
+          (record { sinks = ap (λ (it : Walk). it.sinks) same; pending = ap (λ (it : Walk). it.pending) same; left_out = ap (λ (it : Walk). it.left_out) same }),
       grows_same kept.keys so.comms.table_is,
     )) c.finish.ensures.end
 

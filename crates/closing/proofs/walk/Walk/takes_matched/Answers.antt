@@ -1,5 +1,5 @@
 -- Nothing is put.
-use Rattle.closing.specs.Recording.{GoesOn}
+use Rattle.closing.specs.Sinks.{GoesOn}
 use Rattle.std.proofs.Common.{[]}
 use Rattle.closing.specs.declared.stop.Stop.TheVariants.{Memory}
 use Rattle.closing.proofs.FollowLemmas.{nothing_put, residual}

@@ -3,7 +3,7 @@ use Rattle.std.proofs.Common.{◌≡◌, ◌∙◌, ap, sym, map, Some, None, Ok
 use Rattle.std.specs.Prelude.{slice_get}
 use Rattle.closing.specs.Called.{naturals_in}
 use Rattle.closing.specs.Entry.{ids_of, unless_past, wait_for_one}
-use Rattle.closing.specs.Recording.{GoesOn}
+use Rattle.closing.specs.Sinks.{GoesOn}
 use Rattle.closing.specs.Steps.{Own}
 use Rattle.closing.specs.declared.stop.Stop.TheVariants.{Memory}
 use Rattle.closing.proofs.FollowLemmas.{residual}
