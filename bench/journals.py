@@ -1,15 +1,18 @@
 #!/usr/bin/env python3
 """What a run's journals stand for, by definition: a second program to compare `judge` and `close` with.
 
-    journals.py judge [--json] [--eager N] [--tests wait|pass] [--calls strict|went] FOLDER
+    journals.py judge [--as-closed] [--json] [--eager N] [--tests wait|pass] [--calls strict|went] FOLDER
     journals.py close [--tests wait|pass] [--calls strict|went] FOLDER OUT
 
 It is no part of the product and shares nothing with it but bench/journal_faults.py, which knows the form of
-journals. It makes the head and the traces rule by rule, in memory and without haste, and has them checked by
-the program that the variable MPIWAIT names, else by the repository's `mpiwait`.
+journals. It makes the head and the traces rule by rule, in memory and without haste, and judges them by
+bench/wait_graph.py. With --as-closed it has what `close' makes checked by the program that the variable MPIWAIT
+names, else by the repository's `mpiwait'.
 
 An entry is a call line with the lines after it that begin with `='. Each gives some lines of the trace, or
-ends the trace by `open' for a reason. The statuses are those of `mpiwait check'.
+ends the trace by `open' for a reason. What `judge' knows besides: a receive that nobody knows the message of is a
+sink, and a rank that is in a call which waits for some of several things has a pending call. The statuses are those
+of `mpiwait check'.
 """
 
 import argparse
@@ -25,25 +28,21 @@ from pathlib import Path
 HERE = Path(__file__).resolve().parent
 sys.path.append(str(HERE))
 
+from journal_comms import (  # noqa: E402
+    COLLECTIVES,
+    MAKERS,
+    SENDS,
+    STARTED_COLLECTIVES,
+    STARTED_SENDS,
+    Communicators,
+    spelled,
+)
 from journal_faults import Fault, check, header_of, lines_of  # noqa: E402
+from wait_graph import Message, Pending, Waits  # noqa: E402
 
 MOST_LINES = 1_000_000  # of a trace
-MOST_COMMUNICATORS = 4095  # of a head, the world not counted
 MOST_REQUESTS = 64  # of a wait
 
-SENDS = {"send": "send", "rsend": "send", "ssend": "ssend", "bsend": "bsend"}
-STARTED_SENDS = {"isend": "isend", "irsend": "isend", "issend": "issend", "ibsend": "ibsend"}
-ROOTED = {"bcast", "gather", "scatter", "reduce"}
-COLLECTIVES = ROOTED | {"barrier", "allgather", "alltoall", "allreduce", "scan", "exscan"}
-STARTED_COLLECTIVES = {"i" + word for word in COLLECTIVES}
-MAKERS = {"comm_dup", "comm_split", "comm_make"}
-IN_WAVES = COLLECTIVES | STARTED_COLLECTIVES | MAKERS | {"comm_idup"}
-# The place of the communicator in the fields of the calls that are on one.
-ON = {
-    **dict.fromkeys({*SENDS, *COLLECTIVES, *MAKERS, "recv", "sendrecv", "probe", "iprobe"}, 0),
-    **dict.fromkeys({*STARTED_SENDS, *STARTED_COLLECTIVES, "comm_idup", "irecv", "mprobe", "improbe"}, 1),
-    "isendrecv": 2,
-}
 ALWAYS_BACK = {"test", "iprobe", "improbe"}
 OF_OTHER_CALLS = {"=done", "=gone", "=kept", "=apart"}
 
@@ -146,163 +145,6 @@ def journals_in(folder):
     return [journal, *(journal_of(folder, rank, first)[1] for rank in range(1, first[1]))]
 
 
-# ---- Communicators -------------------------------------------------------------------------------
-
-
-@dataclass(frozen=True)
-class Key:
-    """How a communicator came to be: two are the same exactly if their keys are equal. `parent` is the place
-    of the parent's key among all keys, `count` how many like it came before."""
-
-    way: str  # world, alone, made, idup, group, apart
-    parent: int
-    count: int
-    group: tuple
-
-
-class Own:
-    """What a rank has: places of keys, by its own numbers and in the order in which it got them."""
-
-    def __init__(self, world, alone):
-        self.local, self.has = {0: world, 1: alone}, [alone]
-        self.idups = {}  # the parent and the number of the call, by request
-        self._counts = {}
-
-    def count(self, *what):
-        """How many like this came before."""
-        self._counts[what] = self._counts.get(what, -1) + 1
-        return self._counts[what]
-
-    def got(self, key, local=None):
-        self.has.append(key)
-        if local is not None:
-            self.local[int(local)] = key
-
-
-class Communicators:
-    def __init__(self, journals):
-        self.journals = journals
-        self.keys = []  # all of them
-        self.places = {}  # of keys in that list
-        self.world = self._place("world", -1, 0, range(len(journals)))
-        self.owns = [Own(self.world, self._place("alone", -1, 0, [journal.rank])) for journal in journals]
-        self.named = set()  # by a call other than that which makes it
-        # By rank and line: of a call that all members make the parent and how many came before; of one that
-        # makes a communicator its key.
-        self.waves, self.brings = {}, {}
-        for journal, own in zip(journals, self.owns):
-            for entry in journal.entries:
-                self._call(entry, (journal.rank, entry.line), own)
-                for word, *fields in entry.reports:
-                    self._report(word, fields, (journal.rank, entry.line), own)
-        self.in_wave = {}  # by parent and count: the ranks that report a communicator, and its key
-        for (rank, line), key in self.brings.items():
-            if self.keys[key].way == "made":
-                self.in_wave.setdefault(self.waves[rank, line], []).append((rank, key))
-        for journal in journals:
-            self._find_untold(journal)
-        self.numbered = [self.world, *self._with_numbers()]
-        self.numbers = {key: number for number, key in enumerate(self.numbered)}
-        self.layers = self._layers()
-
-    def _place(self, way, parent, count, group):
-        key = Key(way, parent, count, tuple(map(int, group)))
-        if key not in self.places:
-            self.places[key] = len(self.keys)
-            self.keys.append(key)
-        return self.places[key]
-
-    def key(self, rank, local):
-        return self.owns[rank].local[int(local)]
-
-    def group(self, key):
-        return self.keys[key].group
-
-    def number(self, key):
-        return self.numbers.get(key)
-
-    # ---- Which there are ----
-
-    def _call(self, entry, place, own):
-        if entry.word in ON:
-            parent = own.local[int(entry.fields[ON[entry.word]])]
-            self.named.add(parent)
-            if entry.word in IN_WAVES:
-                self.waves[place] = parent, own.count(parent)
-            if entry.word == "comm_idup":
-                own.idups[entry.fields[0]] = self.waves[place]
-        elif entry.word == "comm_create_group":
-            group = entry.fields
-            self.brings[place] = self._place("group", -1, own.count("group", *group), group)
-            self.named.add(self.brings[place])
-            own.got(self.brings[place])
-
-    def _report(self, word, fields, place, own):
-        if word == "=comm" and place in self.brings:
-            own.local[int(fields[0])] = self.brings[place]  # by comm_create_group
-        elif word == "=comm":
-            self.brings[place] = self._place("made", *self.waves[place], fields[1:])
-            own.got(self.brings[place], fields[0])
-        elif word == "=idup":
-            own.got(self._place("idup", *own.idups[fields[1]], fields[2:]), fields[0])
-        elif word == "=apart":
-            own.got(self._place("apart", -1, own.count("apart", *fields[1:]), fields[1:]), fields[0])
-
-    def _find_untold(self, journal):
-        """A call that never came back may have made what other ranks report of the same wave."""
-        entry = journal.entries[-1]
-        is_undefined = entry.word == "comm_split" and entry.fields[1] == "undefined"
-        place = journal.rank, entry.line
-        if entry.word in MAKERS and not entry.came_back and not is_undefined:
-            others = sorted(self.in_wave.get(self.waves[place], []))
-            for _, key in others:
-                if journal.rank in self.group(key):
-                    self.brings[place] = key
-                    self.owns[journal.rank].got(key)
-                    return
-
-    # ---- Numbers ----
-
-    def _with_numbers(self):
-        """The keys with a number, from 1 on: by the lowest rank that has them, then by when it got them."""
-        wanted = (key for own in self.owns for key in own.has if key in self.named)
-        return list(dict.fromkeys(wanted))[:MOST_COMMUNICATORS]
-
-    def head(self):
-        groups = ["comm " + spelled(self.group(key)) for key in self.numbered[1:]]
-        return "".join(line + "\n" for line in [f"ranks {len(self.journals)}", *groups])
-
-    def preface(self, rank):
-        """The lines at the head of its trace by which it gets those that no call on a parent makes."""
-        lines = []
-        for layer in self.layers:
-            mine = [(colour, key) for colour, key in enumerate(layer) if rank in self.group(key)]
-            for colour, key in mine:
-                lines.append(f"split 0 {colour} {self.group(key).index(rank)} {self.number(key)}")
-            if not mine:
-                lines.append("split 0 undefined 0 none")
-        return lines
-
-    def _layers(self):
-        """Those of the preface by lines: each, by its number, in the first line without a common member."""
-        layers = []
-        for key in self.numbered[1:]:
-            if self.keys[key].way == "made":
-                continue
-            members = set(self.group(key))
-            for layer in layers:
-                if all(members.isdisjoint(self.group(other)) for other in layer):
-                    layer.append(key)
-                    break
-            else:
-                layers.append([key])
-        return layers
-
-
-def spelled(numbers):
-    return " ".join(map(str, numbers))
-
-
 # ---- What an entry stands for --------------------------------------------------------------------
 
 
@@ -313,12 +155,16 @@ class Left(Exception):
 class List:
     """The trace of one rank: its lines, and of which line of the journal each is."""
 
-    def __init__(self, journal, communicators, tests, calls):
+    def __init__(self, journal, communicators, words):
         self.journal, self.communicators = journal, communicators
-        self.passes_tests = tests == "pass" and calls == "strict"
-        self.as_it_went = calls == "went"
+        self.passes_tests = words.tests == "pass" and words.calls == "strict"
+        self.as_it_went = words.calls == "went"
+        self.has_sinks = words.run is judge and not words.as_closed
         self.lines, self.places = [], []
-        self.left = None if journal.is_there else (0, "no journal")
+        self.end = None if journal.is_there else (0, "no journal")  # why it ends before its end, and at which line
+        self.left = [] if journal.is_there else [self.end]
+        self.sinks = {}  # messages by request
+        self.pending = None
         self.starts = {}  # the request, of the journal, that a place of the trace starts
         self.same = {}  # the message that a request of `imrecv' stands for
         self.active = {}  # numbers by request
@@ -330,7 +176,8 @@ class List:
                 self.put(text)
             last = self.all_entries()
         except Left as why:
-            self.left = self.line, str(why)
+            self.end = (self.line, str(why))
+            self.left.append(self.end)
             last = "open"
         self.lines.append(last)
         self.places.append(self.line)
@@ -356,6 +203,9 @@ class List:
         self.lines.append(spelled(fields))
         self.places.append(self.line)
 
+    def leave(self, why):
+        self.left.append((self.line, why))
+
     def stands_for_its_start(self, entry):
         """As it went, a call that came back waits for nothing any more."""
         return self.as_it_went and entry.came_back
@@ -378,14 +228,12 @@ class List:
         return number
 
     def message(self, comm, source, tag, reported):
-        """The source and the tag of a receive or probe; None where those of a wildcard weren't reported."""
+        """The source and the tag of a receive or probe, with what was reported in the place of wildcards."""
         self.can_be(comm, source, tag)
         if source == "null":
             return ["null", "0" if tag == "any" else tag]
-        if "any" not in (source, tag):
+        if "any" not in (source, tag) or reported is None:
             return [source, tag]
-        if reported is None:
-            return None
         message = [known if own == "any" else own for own, known in zip((source, tag), reported)]
         self.can_be(comm, *message)
         return message
@@ -417,6 +265,50 @@ class List:
         for request in requests:
             heapq.heappush(self.free, self.active.pop(request))
 
+    # ---- Sinks and pending calls ----
+
+    def messages_of_sinks(self):
+        return {place: self.sinks[request] for place, request in self.starts.items() if request in self.sinks}
+
+    def start_sink(self, request, number, message):
+        """Nobody knows what it took, or it may have taken what an earlier one of these didn't."""
+        self.start("irecv", request, number, "null", 0)
+        self.sinks[request] = message_of(number, message)
+
+    def overlaps(self, number, message):
+        """Whether it may take what a sink may."""
+        if message[0] == "null":
+            return False
+        return any(message_of(number, message).overlaps(one) for one in self.sinks.values())
+
+    def is_sink(self, entry, number, message):
+        """Of a blocking receive or a probe: what nobody was told of ends the list, and so does one that overlaps
+        a sink; but as it went, if that came back, it is one more sink."""
+        is_untold = "any" in message
+        if not is_untold and not self.overlaps(number, message):
+            return False
+        if not is_untold and self.stands_for_its_start(entry):
+            return True
+        if not is_untold and entry.came_back:
+            raise Left("not judged")
+        self.end_pending(entry, "all", [message_of(number, message)])
+        raise Left("never came back")
+
+    def end_pending(self, entry, way, items):
+        if self.has_sinks and not entry.came_back and items:
+            self.pending = Pending(way, items)
+
+    def end_wait(self, entry, way):
+        """Ends the list at a wait: with a pending call if it never came back."""
+        if entry.came_back and way == "all":
+            raise Left("not judged")
+        items = [
+            self.sinks.get(one, self.active.get(one)) for one in (self.same.get(q, q) for q in entry.fields)
+        ]
+        known = [item for item in items if item is not None]
+        self.end_pending(entry, way, known if way == "all" or len(known) == len(items) else [])
+        raise Left("never came back")
+
     # ---- Messages ----
 
     def send(self, entry):
@@ -439,12 +331,11 @@ class List:
         comm, source, tag = entry.fields
         message = self.message(comm, source, tag, entry.reported("=got"))
         number = self.numbered(comm)
-        self.came_back_from(message)
-        self.start_or_put(entry, "recv", number, *message)
-
-    def came_back_from(self, message):
-        if message is None:
-            raise Left("never came back")
+        if self.is_sink(entry, number, message):
+            self.start_sink(entry.line, number, message)
+            self.leave("not judged")
+        else:
+            self.start_or_put(entry, "recv", number, *message)
 
     def irecv(self, entry):
         request, comm, source, tag = entry.fields
@@ -452,19 +343,38 @@ class List:
         self.start_receive(request, self.numbered(comm), message)
 
     def start_receive(self, request, number, message):
-        if message is None and request not in self.journal.gone:
+        is_untold = "any" in message and request not in self.journal.gone
+        if is_untold and not self.has_sinks:
             raise Left("never told")
-        self.start("irecv", request, number, *(message or ()))
+        if is_untold or request not in self.journal.gone and self.overlaps(number, message):
+            self.start_sink(request, number, message)
+            self.leave("never told" if is_untold else "not judged")
+        else:
+            self.start("irecv", request, number, *message)
 
     def sendrecv(self, entry):
         comm, peer, tag, source, other, *size = entry.fields
         self.can_be(comm, peer, tag)
         message = self.message(comm, source, other, entry.reported("=got"))
         number = self.numbered(comm)
-        self.came_back_from(message)
-        if self.stands_for_its_start(entry):
-            self.start("isend", (entry.line, "send"), number, peer, tag, *size)
-            self.start("irecv", (entry.line, "receive"), number, *message)
+        sent, received = (entry.line, "send"), (entry.line, "receive")
+        is_both = self.stands_for_its_start(entry)
+        try:
+            is_sink = self.is_sink(entry, number, message)
+        except Left:
+            if self.pending:
+                pending, self.pending = self.pending, None
+                self.start("isend", sent, number, peer, tag, *size)
+                self.start_sink(received, number, message)
+                self.pending = Pending("all", [self.active[sent], *pending.items])
+            raise
+        if is_both or is_sink:
+            self.start("isend", sent, number, peer, tag, *size)
+        if is_sink:
+            self.start_sink(received, number, message)
+            self.leave("not judged")
+        elif is_both:
+            self.start("irecv", received, number, *message)
         else:
             self.put("sendrecv", number, peer, tag, *message, *size)
 
@@ -480,10 +390,13 @@ class List:
         *request, comm, source, tag = entry.fields
         message = self.message(comm, source, tag, entry.reported("=got"))
         number = self.numbered(comm)
-        self.came_back_from(message)
+        is_sink = self.is_sink(entry, number, message)
         if not self.stands_for_its_start(entry):
             self.put("probe", number, *message)
-        if request:
+        if request and is_sink:
+            self.start_sink(*request, number, message)
+            self.leave("not judged")
+        elif request:
             self.start("irecv", *request, number, *message)
 
     def imrecv(self, entry):
@@ -493,11 +406,17 @@ class List:
     # ---- Waits ----
 
     def wait(self, entry):
-        if not self.stands_for_its_start(entry):
-            self.wait_for(self.standing(entry.fields))
+        if self.stands_for_its_start(entry):
+            return
+        if self.has_sink_of(entry.fields):
+            self.end_wait(entry, "all")
+        self.wait_for(self.standing(entry.fields))
+
+    def has_sink_of(self, requests):
+        return any(one in self.sinks for one in self.standing(requests))
 
     def test(self, entry):
-        if self.passes_tests:
+        if self.passes_tests and not self.has_sink_of(entry.fields):
             self.late += [one for one in self.standing(entry.fields) if one in self.journal.sends]
             self.wait_for([one for one in self.standing(entry.fields) if one not in self.journal.sends])
         else:
@@ -506,11 +425,13 @@ class List:
     def choose(self, entry):
         chosen = entry.reported("=chose")
         if chosen is None and len(entry.fields) > 1:
-            raise Left("never came back")
+            self.end_wait(entry, "any")
         if self.stands_for_its_start(entry):
             return
-        named = self.standing(entry.fields)[:MOST_REQUESTS]
         wanted = self.standing(chosen or entry.fields)
+        if self.has_sink_of(chosen or entry.fields):
+            self.end_wait(entry, "all")
+        named = [one for one in self.standing(entry.fields) if one not in self.sinks][:MOST_REQUESTS]
         if entry.word == "waitany" and len(entry.fields) > 1 and wanted and wanted[0] in named:
             self.put("waitany", named.index(wanted[0]), *(self.active[request] for request in named))
             self.complete(wanted)
@@ -563,6 +484,11 @@ class List:
         self.start_or_put(entry, "barrier", number)
 
 
+def message_of(number, message):
+    return Message(number, *(field if field == "any" else int(field) for field in message))
+
+
+STATUSES = {"free": 0, "hang": 1, "unfinished": 5}
 ENDS = {"stopped": "stopped", "abort": "aborted", "full": "full"}
 ENTRIES = {
     **dict.fromkeys(SENDS, List.send), **dict.fromkeys(STARTED_SENDS, List.isend), "recv": List.recv,
@@ -583,7 +509,7 @@ class Recording:
     def __init__(self, words):
         self.journals = journals_in(words.folder)
         self.communicators = Communicators(self.journals)
-        self.lists = [List(one, self.communicators, words.tests, words.calls) for one in self.journals]
+        self.lists = [List(one, self.communicators, words) for one in self.journals]
 
     def write(self, out):
         try:
@@ -598,6 +524,27 @@ class Recording:
             raise Named("fault write", 4) from None
 
     def report(self, words):
+        """The status and the report."""
+        status, report = self.checked(words) if words.as_closed else self.judged(words)
+        kept = (
+            [] if words.calls == "went" else [one for one in report["findings"] if not self.is_of_freed(one)]
+        )
+        return status, report | {"findings": kept, "left": self.left()}
+
+    def waits(self, eager):
+        return Waits(
+            [self.communicators.group(key) for key in self.communicators.numbered],
+            [one.lines for one in self.lists],
+            [one.pending for one in self.lists],
+            [one.messages_of_sinks() for one in self.lists],
+            None if eager is None else int(eager),
+        )
+
+    def judged(self, words):
+        report = self.waits(words.eager).report()
+        return STATUSES[report["verdict"]], report
+
+    def checked(self, words):
         """The status and the report of `mpiwait check', by its JSON."""
         with tempfile.TemporaryDirectory() as folder:
             out = os.path.join(folder, "out")
@@ -611,14 +558,10 @@ class Recording:
             said = subprocess.run(command, capture_output=True, text=True, check=False)
         if said.returncode not in (0, 1, 5):
             raise Named((said.stdout + said.stderr).rstrip("\n"), said.returncode)
-        report = json.loads(said.stdout)
-        kept = (
-            [] if words.calls == "went" else [one for one in report["findings"] if not self.is_of_freed(one)]
-        )
-        return said.returncode, report | {"findings": kept, "left": self.left()}
+        return said.returncode, json.loads(said.stdout)
 
     def left(self):
-        return [[rank, *one.left] for rank, one in enumerate(self.lists) if one.left]
+        return [[rank, *left] for rank, one in enumerate(self.lists) for left in one.left]
 
     def is_of_freed(self, finding):
         """Whether it is one `request R I Q' whose request the program freed."""
@@ -637,16 +580,20 @@ class Recording:
         places = set()
         for stuck in report["ranks"]:
             rank, at = stuck["rank"], stuck["at"]
-            places |= {(rank, at), *((other, call) for other, call in stuck["needs"] if call is not None)}
+            calls = [need for need in stuck["needs"] if len(need) == 2 and need[1] is not None]
+            places |= {(rank, at), *map(tuple, calls)}
             places |= {(rank, start) for start in self.starts_of(rank, at)}
         for finding in report["findings"]:
             places |= self.places_of(finding)
         return [[rank, at, self.lists[rank].places[at]] for rank, at in sorted(places)]
 
     def starts_of(self, rank, at):
-        """The starts of the requests that a wait completes: the last ones before it with these numbers."""
-        lines = self.lists[rank].lines
+        """The starts of the requests that a wait completes, or a pending call waits for: the last ones before it
+        with these numbers."""
+        lines, pending = self.lists[rank].lines, self.lists[rank].pending
         word, *numbers = lines[at].split(" ")
+        if word == "open" and pending:
+            word, numbers = "waitall", [str(item) for item in pending.items if isinstance(item, int)]
         if word not in ("wait", "waitall", "waitany"):
             return
         wanted = {numbers[1 + int(numbers[0])]} if word == "waitany" else set(numbers)
@@ -698,16 +645,23 @@ def judge(words):
 def text_of(report):
     yield f"verdict {report['verdict']}"
     for stuck in report["ranks"]:
-        for rank, call in stuck["needs"]:
-            awaited = "none" if call is None else f"call {call}"
-            yield f"rank {stuck['rank']} at {stuck['at']} {stuck['call']} waits rank {rank} {awaited}"
+        for need in stuck["needs"]:
+            yield f"rank {stuck['rank']} at {stuck['at']} {stuck['call']} waits {awaited_by(need)}"
     for cause in report["causes"]:
         (kind, numbers), *_ = cause.items()
-        yield f"{kind} {spelled(numbers)}"
+        yield f"{kind} {numbers if kind == 'starved' else spelled(numbers)}"
     for finding in report["findings"]:
         yield f"finding {finding}"
     for left in report["left"]:
         yield f"left {spelled(left)}"
+
+
+def awaited_by(need):
+    """A call of a rank, or none; a rank, whatever it calls; nobody."""
+    if len(need) < 2:
+        return f"rank {need[0]}" if need else "nobody"
+    rank, call = need
+    return f"rank {rank} {'none' if call is None else f'call {call}'}"
 
 
 def close(words):
@@ -732,6 +686,7 @@ def words_of(argv):
         if command is judge:
             sub.add_argument("--json", action="store_true")
             sub.add_argument("--eager", metavar="N")
+            sub.add_argument("--as-closed", action="store_true")
         sub.add_argument("folder", metavar="FOLDER")
         if command is close:
             sub.add_argument("out", metavar="OUT")
