@@ -28,7 +28,7 @@ BYTES = {
     "docs/ARCHITECTURE.md": 12_288,
     "docs/DECISIONS.md": 25_600,
     "docs/DEFINITIONS.md": 22_000,
-    "docs/FORMATS.md": 41_500,
+    "docs/FORMATS.md": 42_400,
     "docs/PROOFS.md": 20_480,
     "docs/TESTING.md": 10_240,
     "tools/README.md": 20_500,

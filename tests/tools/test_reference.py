@@ -34,7 +34,7 @@ class Reference(Folders):
         self.write("checker", f"#!/bin/sh\ncat {self.folder}/said\nexit {status}\n")
         (self.folder / "checker").chmod(0o755)
         with mock.patch.dict(os.environ, MPIWAIT=str(self.folder / "checker")):
-            return self.run_program("judge", *words, self.folder / "journal")
+            return self.run_program("judge", "--as-closed", *words, self.folder / "journal")
 
     def test_the_rows_of_close(self):
         count = 0
@@ -91,6 +91,27 @@ class Reference(Folders):
         }
         self.run_of("isend 1 0 0 3 / isend 2 0 0 4 / request_free 1 / finalize")
         self.assertEqual(self.judged(report), (0, "verdict free\nfinding request 0 1 1\n", ""))
+
+    def test_waits_for_any_of_several(self):
+        self.run_of("recv 0 any any", "recv 0 0 1", "finalize")
+        words = "judge", "--calls", "went", self.folder / "journal"
+        text = "verdict hang\nrank 0 at 0 any 0:any:any waits rank 1\n"
+        text += "rank 1 at 0 recv 0 0 1 waits rank 0 none\ncycle 0 1\nleft 0 2 never came back\n"
+        self.assertEqual(self.run_program(*words), (1, text, ""))
+        self.again()
+        self.run_of("irecv 1 0 any 4 / isend 2 0 1 3 / wait 2 1", "finalize")
+        status, said, _ = self.run_program(*words[:3], "--json", self.folder / "journal")
+        report = json.loads(said)
+        rank = {"at": 2, "call": "all 1 0:any:4", "needs": [[1, None], []], "rank": 0}
+        self.assertEqual((status, report["ranks"], report["causes"]), (1, [rank], [{"missing": [0, 1]}]))
+        self.assertEqual(report["left"], [[0, 2, "never told"], [0, 4, "never came back"]])
+        self.assertEqual(report["lines"], [[0, 1, 3], [0, 2, 4]])
+
+    def test_sinks(self):
+        self.run_of("irecv 1 0 any 4 / irecv 2 0 1 4 / isend 3 0 1 0 / finalize", "send 0 0 4 / finalize")
+        text = "verdict unfinished\nrank 1 at 0 send 0 0 4 waits rank 0 none\nfinding unreceived 0 2\n"
+        text += "finding request 0 2 2\nleft 0 2 never told\nleft 0 3 not judged\n"
+        self.assertEqual(self.run_program("judge", self.folder / "journal"), (5, text, ""))
 
     def test_faults(self):
         self.run_of("finalize", "barrier 0 / foo")

@@ -134,7 +134,7 @@ class Titles(Folders):
         )
         both = "verdict unfinished: rank 0 made more than 1,000,000 calls, rank 1 cut off before MPI_Finalize"
         self.assertEqual(self.title("full @1", "barrier 0 @2"), both + end)
-        calls = "irecv 1 0 any 3 @1 / barrier 0 / finalize"
+        calls = "recv 0 any 3 @1 / barrier 0 / finalize"
         self.assertEqual(self.title(calls, calls), "verdict unfinished: not all calls could be judged" + end)
 
     def test_of_a_refused_run(self):
@@ -335,10 +335,22 @@ class CutOff(Folders):
         self.assertEqual(
             said["Calls at which the judgement of a rank ends"],
             [
-                "ranks 0 and 1: MPI_Irecv at /a.py:1 never completed, and what it would have matched isn't known",
                 "rank 2: MPI_Send at /a.py:2 answered with an error",
             ],
         )
+        receives = said["Receives of which it isn't known what they took"]
+        self.assertEqual(receives, ["ranks 0 and 1: MPI_Irecv at /a.py:1"])
+
+    def test_waits_for_messages_from_anybody(self):
+        said = self.sections("recv 0 any any @21", "recv 0 0 1 @22", "recv 0 0 1 @22")
+        wait = "rank 0 waits in MPI_Recv at /a.py:21 for a message from anybody"
+        senders = ", and ranks 1 and 2, who could send one, wait for rank 0"
+        self.assertEqual(said["It hung here"][1].strip(), wait + senders)
+        self.assertNotIn("Calls at which the judgement of a rank ends", said)
+        self.again()
+        said = self.sections("irecv 1 0 any 3 @4 / wait 1 @5", "finalize")
+        wait = "rank 0 waits in MPI_Wait at /a.py:5 for a message from anybody with tag 3"
+        self.assertEqual(said["It hung here"], [wait + ", and nobody is left who could send one"])
 
     def test_calls_at_which_the_judgement_ends(self):
         said = self.sections(

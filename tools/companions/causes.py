@@ -21,7 +21,7 @@ def place_key(stuck):
 def alike_key(stuck):
     """Stuck ranks with the same key share a line."""
     needs = tuple((rank, call is None) for rank, call in stuck.needs)
-    return stuck.call.name, stuck.call.where, stuck.call.message(), needs
+    return stuck.call.name, stuck.call.where, stuck.call.message(), needs, tuple(stuck.senders)
 
 
 def need_words(stuck, rank, call):
@@ -32,14 +32,28 @@ def need_words(stuck, rank, call):
     return f"for a {answers.pop() if len(answers) == 1 else 'matching call'} that rank {rank} {never}"
 
 
+def message_words(stuck):
+    """What nobody sends: who could send it, and for whom they wait."""
+    messages = f"for a message {' or '.join(stuck.messages())}"
+    if not stuck.senders:
+        return f"{messages}, and nobody is left who could send one"
+    waited = {rank for one in stuck.senders for rank in stuck.view.stuck[one].waited}
+    whom = f" for {ranks_named(waited)}" if len(waited) == 1 else " too"
+    verb = "wait" if len(stuck.senders) > 1 else "waits"
+    return f"{messages}, and {ranks_named(stuck.senders)}, who could send one, {verb}{whom}"
+
+
 def stuck_lines(first, *others):
     """Some stuck ranks that wait alike."""
     needs = [need_words(first, *need) for need in first.needs]
     if len(first.waited) > 2 or others and any(call for _, call in first.needs):
-        needs = [f"for {ranks_named(first.waited)}"]
+        needs = [f"for {ranks_named({rank for rank, _ in first.needs})}"] if needs else []
+    is_for_message = first.is_pending and (first.senders or not needs or first.sinks)
+    needs += [message_words(first)] if is_for_message else []
     waits = f"{ranks_named(one.rank for one in (first, *others))} {'wait' if others else 'waits'}"
-    yield f"{waits} in {first.call.text()}, {needs[0]}"
-    yield from (f"    and {need}" for need in needs[1:])
+    call = f"{first.call.placed()} " if is_for_message and not first.needs else f"{first.call.text()}, "
+    yield f"{waits} in {call}{needs[0]}"
+    yield from (f"    {'or' if first.is_any else 'and'} {need}" for need in needs[1:])
     peers = [(one, {half.rank for half in one.halves}) for one in ([] if others else first.starts)]
     starts = [one.text() for one, ranks in peers if not ranks or ranks & first.waited]
     yield from (f"    started by {start}" for start in shortened(counted(starts), 4))
@@ -92,9 +106,13 @@ def cause_lines(view):
         if others:
             lines.append("and so " + listed(shortened(map(ranks_named, others), MOST_NAMES)))
     keys = {place_key(view.stuck[one["missing"][0]]) for one in view.report["causes"] if "missing" in one}
+    starved = [view.stuck[one["starved"]] for one in view.report["causes"] if "starved" in one]
     # A rank that waits in the same line for a missing call belongs to the cause, also if another is named.
     alike = [one for one in view.stuck.values() if one.rank in view.held - named and place_key(one) in keys]
     for group in grouped([one for one in alike if any(not call for _, call in one.needs)], alike_key):
+        lines += stuck_lines(*group)
+        named.update(one.rank for one in group)
+    for group in grouped([one for one in starved if one.rank not in named], alike_key):
         lines += stuck_lines(*group)
         named.update(one.rank for one in group)
     return lines, named

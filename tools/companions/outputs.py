@@ -36,6 +36,7 @@ def as_json(story):
         "ranks": [call_json(one.call) | {
             "held": one.rank in shown.held, "message": one.call.message(),
             "waits": [{"rank": rank, "call": call and call_json(call)} for rank, call in one.needs],
+            "messages": one.messages() if one.is_pending else [], "senders": one.senders,
             "started": [call_json(start) for start in one.starts]} for one in story.stuck],
         "causes": shown.report["causes"] if shown else [],
         "polls": [{"rank": rank, "mpi": name, "where": run.places.where(rank, site), "count": count}
@@ -108,33 +109,36 @@ def marked_arrows(view):
     """The arrows of the causes: pairs of a rank and the place of its need."""
     for cause in view.report["causes"]:
         cycle = cause.get("cycle")
-        for rank, other in zip(cycle, cycle[1:] + cycle[:1]) if cycle else [cause["missing"]]:
-            needs = enumerate(view.stuck[rank].needs)
+        missing = [cause["missing"]] if "missing" in cause else []
+        for rank, other in zip(cycle, cycle[1:] + cycle[:1]) if cycle else missing:
+            needs = enumerate(view.stuck[rank].arrows())
             places = [at for at, (whose, call) in needs if whose == other and (cycle or not call)]
             yield from ((rank, at) for at in places[:1])
 
 
 def arrow(view, one, place, is_marked):
     """A need: to the rank that is waited for, also if its call is missing. One that ended is dashed."""
-    rank, call = one.needs[place]
+    rank, call = one.arrows()[place]
     style = {"color": RED, "fontcolor": RED, "penwidth": 2} if is_marked else {}
     style |= {} if call else {"style": "dashed"}
     target = f"rank {rank}" if call or rank in view.stuck else f"missing {rank}"
     if target.startswith("missing"):
         yield statement(target, label=f"rank {rank}", style="dashed")
-    label = call.placed() if call else need_words(one, rank, None).removeprefix("for a ")
+    words = "message" if place >= len(one.needs) else need_words(one, rank, None).removeprefix("for a ")
+    label = call.placed() if call else words
     yield statement(f"rank {one.rank}", target, label=f" {label} ", **style)
 
 
 def dot_of(story):
     """The picture in Graphviz's language."""
     view, marked = story.shown, set(marked_arrows(story.shown))
-    arrows = [(one.rank, place) for one in story.stuck for place in range(len(one.needs))]
+    arrows = [(one.rank, place) for one in story.stuck for place in range(len(one.arrows()))]
     arrows.sort(key=lambda arrow: (arrow not in marked, arrow[1] != 0))
     drawn, left = arrows[:MOST_ARROWS], len(arrows) - MOST_ARROWS
     yield f"digraph mpiwait {{\n  label={json.dumps(story.title)}; labelloc=t; graph [fontname=monospace];"
     yield "  node [fontname=monospace, shape=box]; edge [fontname=monospace];"
-    for rank in dict.fromkeys(rank for rank, _ in drawn):
+    starved = [one.rank for one in story.stuck if not one.waited]
+    for rank in dict.fromkeys([rank for rank, _ in drawn] + starved):
         call, style = view.stuck[rank].call, {"color": RED} if rank in dict(marked) else {}
         label = "\n".join([f"rank {rank}", call.placed(), call.message()]).rstrip()
         yield statement(f"rank {rank}", label=label, URL=f"#rank-{rank}", **style)

@@ -9,7 +9,7 @@ from collections import Counter, namedtuple
 from functools import lru_cache
 from pathlib import Path
 
-from .journals import STANDARD, Call, journals_in, written
+from .journals import RECEIVES, STANDARD, Call, journals_in, written
 from .places import Places, printable
 from .script import HERE, Status, Stopped, worst
 
@@ -70,14 +70,30 @@ class Stuck:
     """A rank that waits in one call, and what that call waits for."""
     def __init__(self, view, entry):
         self.view, self.rank, self.call = view, entry["rank"], view.call(entry["rank"], entry["at"])
-        self.needs = [(rank, None if at is None else view.call(rank, at)) for rank, at in entry["needs"]]
-        self.waited = {rank for rank, _ in self.needs}
+        needs = [one for one in entry["needs"] if one[1:]]
+        self.needs = [(rank, None if at is None else view.call(rank, at)) for rank, at in needs]
+        # It waits for messages that these ranks could send, or nobody; `is_any' if for one of several.
+        self.senders = sorted({one[0] for one in entry["needs"] if len(one) == 1})
+        word = entry.get("call", "").partition(" ")[0]
+        self.is_pending, self.is_any = word in ("any", "all"), word == "any"
+        self.waited = {rank for rank, _ in self.needs}.union(self.senders)
         # The calls that started the requests which it waits for.
         wanted = set(self.call.requests)
         places = view.calls[self.rank].items() if wanted else ()
         calls = dict.fromkeys(call for at, call in places if at < entry["at"])
         self.starts = [one for one in calls if one.word in MATCHED or wanted & set(one.requests)]
+        left = view.left_calls[self.rank] if self.is_pending else []
+        self.sinks = [one for one in left if wanted & set(one.requests) and one is not self.call]
         self.calls = [self.call, *self.starts]
+
+    def arrows(self):
+        """What it waits for, as pairs of a rank and a call, None for a missing one and for a message."""
+        return [*self.needs, *((rank, None) for rank in self.senders)]
+
+    def messages(self):
+        """What it waits for that anybody may send, in words."""
+        halves = [half for call in self.sinks or [self.call] for half in call.halves if not half.is_send]
+        return list(dict.fromkeys(half.text().removesuffix(" with any tag") for half in halves))
 
     def lacking(self, rank):
         """The messages that it exchanges with a rank, but for those for which that rank has a call."""
@@ -89,8 +105,8 @@ class Stuck:
 
 class View:
     """A run as one answer reports it. `strict' is the view of strict waiting, if there is another one."""
-    def __init__(self, run, report, strict=None):
-        self.run, self.report, self.strict = run, report, strict
+    def __init__(self, run, report, strict=None, is_went=False):
+        self.run, self.report, self.strict, self.is_went = run, report, strict, is_went
         numbers = {rank: {} for rank in run.ranks}
         for rank, at, number in sorted(report["lines"]):
             numbers[rank] |= {at: number} if number else {}
@@ -98,6 +114,9 @@ class View:
         for rank, places in numbers.items():
             found = run.calls(rank, places.values()) if places else {}
             self.calls[rank] = {at: found[number] for at, number in places.items() if number in found}
+        self.left_calls = {rank: [] for rank in run.ranks}
+        for rank, number, _ in report["left"]:
+            self.left_calls[rank] += [run.calls(rank, [number])[number]] if number > 1 else []
         self.stuck = {entry["rank"]: Stuck(self, entry) for entry in report["ranks"]}
         self.held = self.held_among(set(self.stuck))
         self.unreceived = {}  # the sends that nobody receives, with what they send, by both ranks
@@ -111,16 +130,37 @@ class View:
 
     def is_closed(self, rank):
         """Whether all calls of the rank are known, to its end."""
-        return self.run.journals[rank].has_ended and all(left[0] != rank for left in self.report["left"])
+        return self.run.journals[rank].has_ended and not any(map(self.ends_list, self.left_calls[rank]))
+
+    def ends_list(self, call):
+        """Whether a call that is left out ends what is known of its rank."""
+        went = self.is_went and call.word in RECEIVES
+        why = next(why for rank, line, why in self.report["left"] if (rank, line) == (call.rank, call.number))
+        is_sink = went or call.word in ("irecv", "isendrecv")
+        return why not in ("never told", "not judged") or not is_sink
 
     def held_among(self, ranks):
         """The stuck ranks that no further calls of others let move on, if only these may be held."""
         held, loose = ranks & set(self.stuck), {None}
         while loose:
-            needs = [(rank, *need) for rank in held for need in self.stuck[rank].needs]
-            stay = {rank for rank, who, call in needs if who in held or not call and self.is_closed(who)}
+            stay = {rank for rank in held if self.stays(self.stuck[rank], held)}
             held, loose = stay, held - stay
         return held
+
+    def stays(self, stuck, held):
+        """Whether a rank waits for ever if these do."""
+        if stuck.is_pending:
+            return stuck.waited <= held or any(not call and self.is_closed(who) for who, call in stuck.needs)
+        stay = [(who, call) for who, call in stuck.needs if who in held or not call and self.is_closed(who)]
+        return any(call or not self.may_be_met(stuck, who) for who, call in stay)
+
+    def may_be_met(self, stuck, rank):
+        """Whether a rank has a receive that may have met what is sent to it, by what is known."""
+        sinks = [call for call in self.left_calls[rank] if not self.ends_list(call)]
+        wanted = [half for call in sinks for half in call.halves]
+        sent = [(half.tag, half.comm) for half in stuck.lacking(rank) if half.is_send]
+        return any(one.tag in ("any", tag) and one.comm == comm and one.rank in (None, stuck.rank)
+                   for one in wanted if not one.is_send for tag, comm in sent)  # fmt: skip
 
     def offers(self, rank, other):
         """What a rank sends to another, or receives from it, that meets no call: each call with its half."""
@@ -206,7 +246,7 @@ class Judgement:
         if not (self.is_short and self.answers):
             self.answers[name] = self.judge.ask(self.run.folder, **{"eager": self.eager, **options})
             if self.answers[name].report is not None:
-                self.views[name] = View(self.run, self.answers[name].report)
+                self.views[name] = View(self.run, self.answers[name].report, is_went=name == "went")
 
     def verdicts(self):
         return {name: VERDICTS.get(answer.status) for name, answer in self.answers.items()}

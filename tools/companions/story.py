@@ -32,6 +32,7 @@ MANY = "made more than 1,000,000 calls"
 WHYS = {
     "never came back": "{0} never came back, and what it would have taken isn't known",
     "never told": "{0} never completed, and what it would have matched isn't known",
+    "not judged": "{0} waits for what another receive may have taken",
     "failed": "{0} answered with an error",
     "no number": "{0} is on a communicator that has no number",
     "cannot be": "{1} names a rank or a tag that can't be",
@@ -98,7 +99,8 @@ class Story(Judgement):
             found = {"Findings, which change no verdict": self.found,
                      "Communicators": self._communicators(), "What this assumes": list(self._assumptions()),
                      "Where the ranks were that didn't come to MPI_Finalize": list(self._where()),
-                     "Calls at which the judgement of a rank ends": self._stops(),
+                     "Calls at which the judgement of a rank ends": self._stops(True),
+                     "Receives of which it isn't known what they took": self._stops(False),
                      "Unanswered questions": [": ".join(one) for one in self.unanswered.items()]}  # fmt: skip
         for meaning, title in MEANINGS.items():
             calls = sorted(self.run.left_out[meaning].items(), key=lambda one: -sum(one[1].values()))
@@ -186,11 +188,14 @@ class Story(Judgement):
             text += "; started and not complete: " + "; ".join(shortened(counted(pending), 4))
         return f"{text}; before that {self.run.journals[rank].last.placed()}"
 
-    def _stops(self):
-        """What a rank's list ends at, or leaves out."""
-        words = {}
-        for rank, line, why in (self.strict or self.shown).report["left"]:
+    def _stops(self, ends):
+        """What a rank's list ends at, or what may have taken any of several messages."""
+        view, words = self.strict or self.shown, {}
+        for rank, line, why in view.report["left"]:
             call = self.run.calls(rank, [line])[line] if why in WHYS else None
-            if call:
-                words[rank] = WHYS.get(call.word, WHYS[why]).format(call.placed(), call.text())
+            stuck = self.shown.stuck.get(rank)
+            is_told = why == "never came back" and stuck and stuck.is_pending and stuck.call.number == line
+            if call and not is_told and view.ends_list(call) == ends:
+                said = WHYS.get(call.word, WHYS[why]).format(call.placed(), call.text())
+                words[rank] = call.placed() if not ends else said
         return [f"{ranks_named(ranks)}: {words[ranks[0]]}" for ranks in grouped(words, words.get)]
