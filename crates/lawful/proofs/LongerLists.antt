@@ -249,17 +249,20 @@ Rest run longer choice entries others = (new : Progress) → NoSinks new.records
 stays_next : (run longer : Run) (choice : Choice) (placed : Placed) (entries : List Placed) (old new one other : List Written) → old ≡ one → new ≡ other → Stays entries one other → Stays (placed ∷ entries) old new
 stays_next run longer choice placed entries old new one other is also (inl begins) = inl (begins_as old new one other is also begins)
 stays_next run longer choice placed entries old new one other is also (inr but) =
-    inr (silent_more placed entries but.0, record {
-      before = but.1.before;
-      last = but.1.last;
-      other = but.1.other;
-      rest = but.1.rest;
-      comm = but.1.comm;
-      makes = but.1.makes;
-      also = but.1.also;
-      old_is = is ∙ but.1.old_is;
-      new_is = also ∙ but.1.new_is;
-    })
+    inr (
+      silent_more placed entries but.0,
+      record {
+        before = but.1.before;
+        last = but.1.last;
+        other = but.1.other;
+        rest = but.1.rest;
+        comm = but.1.comm;
+        makes = but.1.makes;
+        also = but.1.also;
+        old_is = is ∙ but.1.old_is;
+        new_is = also ∙ but.1.new_is;
+      },
+    )
 
 going_stays : (run longer : Run) (choice : Choice) (placed : Placed) (it : More placed) (entries others : List Placed) (progress : Progress) → Both run longer choice → NoSinks progress.records → IsKept run longer placed (with_more placed it) → why_at run placed ≡ None → (makes_comm placed.called ≡ true → (comm : ℕ) → maker longer (with_more placed it) comm ≡ maker run placed comm) → Rest run longer choice entries others → Stays (placed ∷ entries) (list_from run choice progress (placed ∷ entries)).records (list_from longer choice progress (with_more placed it ∷ others)).records
 going_stays run longer choice placed it entries others progress both none kept why same rest = by_end (is_end placed.called) refl

@@ -57,7 +57,7 @@ abbrev made_by : Placed → ℕ → Key → ℕ → ℕ → Call
 made_by placed comm key new ranks =
     if bytes_eq (group_of_key ranks key) (option_map_or (group_of_key ranks) (named_key placed) []) then Dup comm new
     else Split comm (Some (parent_rank (option_map_or (group_of_key ranks) (named_key placed) []) (group_of_key ranks key)))
-        (pos (position_or_len (λ member. member == placed.rank) (group_of_key ranks key))) (Some new)
+    (pos (position_or_len (λ member. member == placed.rank) (group_of_key ranks key))) (Some new)
 
 giving_same : (run longer : Run) (placed : Placed) (it : More placed) (comm : ℕ) (one : Called) (key : Key) (new : ℕ) → length longer ≡ length run → giving_line longer (with_more placed it) comm one key new ≡ giving_line run placed comm one key new
 giving_same run longer placed it comm (Splits own (Some colour) split) key new ranks = refl

@@ -135,8 +135,7 @@ OfWave wave key = (group : List ℕ) × (key ≡ Made wave.parent wave.count gro
 wave_same : (wave : Wave) (o : Option Wave) (group : List ℕ) (key : Key) → is_wave wave o ≡ true → made_with o group ≡ Some key → OfWave wave key
 wave_same wave None group key same made = absurd (none-some key made)
 wave_same wave (Some other) group key same made =
-    let parts = and_parts (same_key wave.parent other.parent) (wave.count == other.count) same in
-    (
+    let parts = and_parts (same_key wave.parent other.parent) (wave.count == other.count) same in (
       group,
       sym (same_Some (Made other.parent other.count group) key made)
           ∙ ap (λ (parent : Key). Made parent other.count group) (sym (same_key_is_equal wave.parent other.parent parts.0))
