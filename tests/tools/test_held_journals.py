@@ -9,8 +9,9 @@ from support import TOP, Folders, script
 HELD = script("held-journals", TOP / "bench")
 
 
-def judged(verdict, stands):
-    return SimpleNamespace(report={"verdict": verdict}, stands=lambda: stands)
+def judged(verdict, stands, pending=(), end=9):
+    how = {"stands": lambda: stands, "pending": lambda: set(pending), "ends": lambda rank: (end, "")}
+    return SimpleNamespace(report={"verdict": verdict}, **how)
 
 
 class HeldJournals(Folders):
@@ -44,6 +45,12 @@ class HeldJournals(Folders):
         self.assertIn("then free", HELD.difference(hang, judged("free", {}), {0}))
         self.assertIn("held are []", HELD.difference(hang, hang, set()))
         self.assertIn("held are [0]", HELD.difference(judged("unfinished", {0: 1}), hang, {0}))
+
+    def test_a_pending_call_that_came_back(self):
+        hang = judged("hang", {0: 3}, {0})
+        self.assertEqual(HELD.difference(hang, judged("unfinished", {}, end=3), {0}), "")
+        self.assertIn("held ranks [0]", HELD.difference(hang, judged("unfinished", {}, end=4), {0}))
+        self.assertIn("then unfinished", HELD.difference(judged("hang", {0: 3}), judged("unfinished", {}, end=3), {0}))
 
 
 if __name__ == "__main__":
