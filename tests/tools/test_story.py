@@ -6,6 +6,7 @@ from unittest import mock
 
 from support import BOTH, MADE, MASKED, TESTED, Folders, Stored
 from companions import script
+from companions.journals import Journal
 from companions.story import MEANINGS, UNTIL_TESTS, Story
 
 FREE = ("send 0 1 0 4 @1 / finalize", "recv 0 0 0 @2 / finalize")
@@ -340,6 +341,22 @@ class CutOff(Folders):
         )
         receives = said["Receives of which it isn't known what they took"]
         self.assertEqual(receives, ["ranks 0 and 1: MPI_Irecv at /a.py:1"])
+
+    def test_each_receive_of_which_it_is_not_known_what_it_took(self):
+        posted = "irecv 1 0 any 3 @1 / irecv 2 0 any 4 @2"
+        said = self.sections(f"{posted} / irecv 3 0 any 3 @1 / recv 0 1 5 @9", f"{posted} / recv 0 0 5 @9")
+        receives = said["Receives of which it isn't known what they took"]
+        self.assertEqual(receives, ["ranks 0 and 1: MPI_Irecv at /a.py:1", "ranks 0 and 1: MPI_Irecv at /a.py:2"])
+
+    def test_calls_that_are_left_out_are_read_at_once(self):
+        asked = []
+        for posted in (2, 4):
+            receives = " / ".join(f"irecv {number} 0 any 3 @1" for number in range(1, 1 + posted))
+            with mock.patch.object(Journal, "calls", autospec=True, side_effect=Journal.calls) as calls:
+                self.sections(f"{receives} / recv 0 1 5 @9", "recv 0 0 5 @9")
+            asked.append(calls.call_count)
+            self.again()
+        self.assertEqual(*asked)
 
     def test_waits_for_messages_from_anybody(self):
         said = self.sections("recv 0 any any @21", "recv 0 0 1 @22", "recv 0 0 1 @22")

@@ -114,9 +114,13 @@ class View:
         for rank, places in numbers.items():
             found = run.calls(rank, places.values()) if places else {}
             self.calls[rank] = {at: found[number] for at, number in places.items() if number in found}
-        self.left_calls = {rank: [] for rank in run.ranks}
-        for rank, number, _ in report["left"]:
-            self.left_calls[rank] += [run.calls(rank, [number])[number]] if number > 1 else []
+        self.whys = {rank: {} for rank in run.ranks}  # why calls are left out, by their lines
+        for rank, number, why in report["left"]:
+            self.whys[rank] |= {number: why} if number > 1 else {}
+        self.left_calls = {}
+        for rank, whys in self.whys.items():
+            found = run.calls(rank, whys) if whys else {}
+            self.left_calls[rank] = [found[number] for number in whys]
         self.stuck = {entry["rank"]: Stuck(self, entry) for entry in report["ranks"]}
         self.held = self.held_among(set(self.stuck))
         self.unreceived = {}  # the sends that nobody receives, with what they send, by both ranks
@@ -135,9 +139,8 @@ class View:
     def ends_list(self, call):
         """Whether a call that is left out ends what is known of its rank."""
         went = self.is_went and call.word in RECEIVES
-        why = next(why for rank, line, why in self.report["left"] if (rank, line) == (call.rank, call.number))
         is_sink = went or call.word in ("irecv", "isendrecv")
-        return why not in ("never told", "not judged") or not is_sink
+        return self.whys[call.rank][call.number] not in ("never told", "not judged") or not is_sink
 
     def held_among(self, ranks):
         """The stuck ranks that no further calls of others let move on, if only these may be held."""

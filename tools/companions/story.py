@@ -189,13 +189,14 @@ class Story(Judgement):
         return f"{text}; before that {self.run.journals[rank].last.placed()}"
 
     def _stops(self, ends):
-        """What a rank's list ends at, or what may have taken any of several messages."""
+        """Where ranks' lists end, or the receives that may have taken any of several messages."""
         view, words = self.strict or self.shown, {}
-        for rank, line, why in view.report["left"]:
-            call = self.run.calls(rank, [line])[line] if why in WHYS else None
+        for rank, calls in view.left_calls.items():
             stuck = self.shown.stuck.get(rank)
-            is_told = why == "never came back" and stuck and stuck.is_pending and stuck.call.number == line
-            if call and not is_told and view.ends_list(call) == ends:
-                said = WHYS.get(call.word, WHYS[why]).format(call.placed(), call.text())
-                words[rank] = call.placed() if not ends else said
-        return [f"{ranks_named(ranks)}: {words[ranks[0]]}" for ranks in grouped(words, words.get)]
+            told = stuck.call.number if stuck and stuck.is_pending else None
+            for call in (call for call in calls if view.ends_list(call) == ends):
+                why = view.whys[rank][call.number]
+                if why in WHYS and (why, call.number) != ("never came back", told):
+                    form = WHYS.get(call.word, WHYS[why]) if ends else "{0}"
+                    words.setdefault(form.format(call.placed(), call.text()), set()).add(rank)
+        return [f"{ranks_named(ranks)}: {said}" for said, ranks in words.items()]
