@@ -48,6 +48,10 @@ pub mod PlainLemmas
 pub mod PlainSteps
 pub mod SoFarLemmas
 pub mod SoFarSteps
+pub mod LongerLemmas
+pub mod LongerSteps
+pub mod LongerMakers
+pub mod LongerLists
 pub mod NewNumbers
 pub mod NewSteps
 pub mod OutcomesOnce

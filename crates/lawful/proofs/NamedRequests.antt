@@ -110,6 +110,12 @@ find_chosen before cur (one ∷ later) word fields line right last all h =
     by_word before cur later word fields line one.word one.fields right last all.0
     (λ next found. find_chosen before (cur ++ one ∷ []) later word fields line right next all.1 found) h
 
+pub chosen_known : (before : List Line) (word : CallWord) (fields : List Field) (lines : List Line) (line : Line) → IsRight before (record { word = Call word; fields = fields }) → AreRight (before ++ record { word = Call word; fields = fields } ∷ []) lines → find (λ (l : Line). is_report report.Chose l.word) (listing_of lines).early ≡ Some line → AllOf (IsKnown before) (requests_in (Some line))
+chosen_known before word fields lines line right all found =
+    (find_chosen before (before ++ record { word = Call word; fields = fields } ∷ []) lines word fields line right
+    (record { entry = record { word = word; fields = fields; reports = [] }; is = last_after_call before word fields; word_is = refl; fields_are = refl })
+    all found).known
+
 -- ---- Fields of a wait for any or some ----
 
 natural_count : (fields : List Field) → AreNatural fields → length (naturals_in fields) ≡ length fields

@@ -27,7 +27,7 @@ use Rattle.closing.specs.Sinks.{Outcome, GoesOn, Ends}
 abbrev pub Grows : List Written → List Written → Type 0
 Grows old new = (rest : List Written) × (new ≡ old ++ rest)
 
-grows_both : (one two three : List Written) → Grows one two → Grows two three → Grows one three
+pub grows_both : (one two three : List Written) → Grows one two → Grows two three → Grows one three
 grows_both one two three first second =
     (first.0 ++ second.0, second.1 ∙ ap (λ (all : List Written). all ++ second.0) first.1 ∙ append_assoc one first.0 second.0)
 
@@ -46,7 +46,7 @@ step_grows progress line (WaitsForOne id ids) = one_grows progress line (number_
 step_grows progress line (PutsOff ids) = grows_none progress.records
 step_grows progress line WaitsForLate = (_, refl)
 
-steps_grow : (progress : Progress) (line : ℕ) (steps : List Step) → Grows progress.records (after_steps progress line steps).records
+pub steps_grow : (progress : Progress) (line : ℕ) (steps : List Step) → Grows progress.records (after_steps progress line steps).records
 steps_grow progress line [] = grows_none progress.records
 steps_grow progress line (step ∷ steps) =
     grows_both progress.records (after_step progress line step).records (after_steps (after_step progress line step) line steps).records

@@ -2,6 +2,7 @@ pub mod Closed
 pub mod Fit
 pub mod Free
 pub mod Laws
+pub mod Longer
 pub mod Plain
 pub mod Same
 pub mod SinkPlaces

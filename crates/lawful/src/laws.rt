@@ -4,6 +4,7 @@ ghost use Rattle.lawful.specs.Closed.{EachRecordingIsClosed, OneNumberIsOneCommu
 ghost use Rattle.lawful.specs.Fit.{EachRunThatWasReadIsFit};
 ghost use Rattle.lawful.specs.Free.{EachFinalizeIsAnEnd, EachFinalizeIsListedThrough, WhatIsGoneThroughEnds, WhatIsLeftIsOpen, WhatIsNotLeftIsAnEnd, WhatIsFreeIsWhole, SinksAloneAreLeft, NothingIsLeft};
 ghost use Rattle.lawful.specs.Laws.{EachRecordingIsLawful, EachRecordingReadsBack};
+ghost use Rattle.lawful.specs.Longer.{WhatIsToldStays};
 ghost use Rattle.lawful.specs.Plain.{EachPlainJournalStaysTheSame};
 ghost use Rattle.lawful.specs.Same.{OneNumberExactlyIfTheSame, CallsAreOnOneNumberExactlyIfOnOne, EachNumberHasItsGroup};
 ghost use Rattle.lawful.specs.SinkPlaces.{EachSinkHasItsPlace, NoneIsBehindASink, SinksAreInOrder};
@@ -112,6 +113,11 @@ pub fn each_plain_journal_stays_the_same()
 /// Where the journal of plain calls goes on, the list begins with the records so far.
 pub fn what_is_so_far_stays()
     ensures { WhatIsSoFarStays }
+{}
+
+/// Where journals go on, with calls of any kind, each list begins with the records so far.
+pub fn what_is_told_stays()
+    ensures { WhatIsToldStays }
 {}
 
 /// What the making of a recording rests on is true of each run that was read.
