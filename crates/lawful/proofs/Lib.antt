@@ -51,6 +51,7 @@ pub mod SoFarSteps
 pub mod LongerLemmas
 pub mod LongerSteps
 pub mod LongerMakers
+pub mod LongerWaves
 pub mod LongerLists
 pub mod NewNumbers
 pub mod NewSteps

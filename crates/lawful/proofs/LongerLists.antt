@@ -1,8 +1,9 @@
 -- What a list has so far stays when its journal goes on.
 use Rattle.std.proofs.Common.{◌≡◌, ◌⊎◌, ℕ, ◌&&◌, ◌==◌, not, Bool, true, false, Option, Some, None, is_none, if◌then◌else◌, List, [], ◌∷◌, ◌++◌, length, refl, sym, ap, subst, ◌∙◌, append_assoc, append-nil, inl, inr}
 use Rattle.std.specs.Prelude.{⊤}
+use Rattle.std.specs.List.{list_all}
 use Rattle.std.specs.Option.{option_map_or}
-use Rattle.std.proofs.lemmas.Bool.{cases_Bool, false≢true}
+use Rattle.std.proofs.lemmas.Bool.{and_parts, cases_Bool, false≢true}
 use Rattle.std.proofs.lemmas.Option.{none-some}
 use Rattle.mpicall.specs.Word.{or_else}
 use Rattle.mpicall.specs.declared.call.Call.{Call}
@@ -28,18 +29,19 @@ use Rattle.closing.specs.declared.why.Why.{Why}
 use Rattle.closing.specs.declared.why.Why.TheVariants.{NeverCameBack, NeverReported, Failed, NoNumber, CannotBe}
 use Rattle.lawful.specs.Longer.{IsKept, AllKept, Begins, BeginsButLast, Stays, is_maker, is_silent, last_is_silent, WhatIsToldStays}
 use Rattle.lawful.proofs.SinkCases.{in_as_of}
-use Rattle.lawful.proofs.EndLemmas.{entry_list, end_list}
+use Rattle.lawful.proofs.NoSinks.{NoSinks, steps_none, steps_not}
+use Rattle.lawful.proofs.EndLemmas.{entry_list, end_list, first_none, goes_on, next_of, none_of}
 use Rattle.lawful.proofs.WalkLemmas.{breaks_none}
 use Rattle.lawful.proofs.SoFarLemmas.{grows_both, steps_grow, list_grows}
 use Rattle.lawful.proofs.NewNumbers.{Numbers}
 use Rattle.lawful.proofs.LongerLemmas.{StaysOf, More, with_more, IsOver, IsLater, AreLater, entries_later}
 use Rattle.lawful.proofs.LongerSteps.{Parts, parts_of, number_same, can_stay, why_stays, steps_stay}
+use Rattle.lawful.proofs.LongerWaves.{waves_same}
 use Rattle.lawful.proofs.LongerMakers.{over_maker, told_maker, maker_makes}
 
--- both runs have the same of communicators, and no list has sinks
+-- both runs have the same of communicators
 record Both (run longer : Run) (choice : Choice) : Type 0 where
   strict : choice.calls ≡ Strict
-  without : choice.unreported ≡ unreported.Ends
   ranks : length longer ≡ length run
   numbers : (key : Key) → number_of longer key ≡ number_of run key
   waves : (wave : Wave) → brings longer wave ≡ brings run wave
@@ -51,9 +53,9 @@ next_by run choice placed others progress o without why =
     ap (λ (outcome : Outcome). go_on progress placed.line outcome (λ new. list_from run choice new others)) (in_as_of run choice progress.records placed without)
     ∙ ap (λ (other : Option Why). entry_list run choice placed others progress other) why
 
-next_if : (run : Run) (choice : Choice) (placed : Placed) (others : List Placed) (progress : Progress) (b : Bool) → choice.unreported ≡ unreported.Ends → why_at run placed ≡ None → is_end placed.called ≡ b → list_from run choice progress (placed ∷ others) ≡ end_list run choice placed others progress b
-next_if run choice placed others progress b without why ends =
-    next_by run choice placed others progress None without why ∙ ap (λ (end : Bool). end_list run choice placed others progress end) ends
+next_if : (run : Run) (choice : Choice) (placed : Placed) (others : List Placed) (progress : Progress) (b : Bool) → NoSinks progress.records → why_at run placed ≡ None → is_end placed.called ≡ b → list_from run choice progress (placed ∷ others) ≡ end_list run choice placed others progress b
+next_if run choice placed others progress b none why ends =
+    next_of run choice placed others progress none why ∙ ap (λ (end : Bool). end_list run choice placed others progress end) ends
 
 begins_as : (old new one other : List Written) → old ≡ one → new ≡ other → Begins one other → Begins old new
 begins_as old new one other is also begins =
@@ -153,8 +155,8 @@ exchange_later run longer choice placed it request received sent awaited both ke
           (ap (λ (o : Option ℕ). needs_number placed.called && is_none o) same ∙ parts.2) (ap (λ (one : Called). is_unknown other one) is);
     }
 
-exchange_begins : (run longer : Run) (choice : Choice) (placed : Placed) (it : More placed) (others : List Placed) (progress : Progress) (request received : ℕ) (sent : Sent) (awaited : Awaited) → Both run longer choice → IsKept run longer placed (with_more placed it) → placed.called ≡ StartsExchange request received sent awaited → why_at run placed ≡ Some NeverReported → Begins (after_steps progress placed.line (steps_of run choice placed)).records (list_from longer choice progress (with_more placed it ∷ others)).records
-exchange_begins run longer choice placed it others progress request received sent awaited both kept is why =
+exchange_begins : (run longer : Run) (choice : Choice) (placed : Placed) (it : More placed) (others : List Placed) (progress : Progress) (request received : ℕ) (sent : Sent) (awaited : Awaited) → Both run longer choice → choice.unreported ≡ unreported.Ends → NoSinks progress.records → IsKept run longer placed (with_more placed it) → placed.called ≡ StartsExchange request received sent awaited → why_at run placed ≡ Some NeverReported → Begins (after_steps progress placed.line (steps_of run choice placed)).records (list_from longer choice progress (with_more placed it ∷ others)).records
+exchange_begins run longer choice placed it others progress request received sent awaited both without none kept is why =
     let one = exchange_later run longer choice placed it request received sent awaited both kept is why in
     let steps = steps_of longer choice (with_more placed it) in
     let middle = after_steps progress placed.line one.first in
@@ -169,19 +171,19 @@ exchange_begins run longer choice placed it others progress request received sen
     by_told : (b : Bool) → why_at longer (with_more placed it) ≡ reported_if b → Begins (after_steps progress placed.line (steps_of longer choice (with_more placed it))).records (list_from longer choice progress (with_more placed it ∷ others)).records
     by_told true reason =
         subst (λ (list : Listed). Begins (after_steps progress placed.line (steps_of longer choice (with_more placed it))).records list.records)
-        (sym (next_by longer choice (with_more placed it) others progress (Some NeverReported) both.without reason))
+        (sym (next_by longer choice (with_more placed it) others progress (Some NeverReported) without reason))
         (subst (λ (steps : List Step). Begins (after_steps progress placed.line (steps_of longer choice (with_more placed it))).records (after_steps progress placed.line steps).records)
         (ap (λ (c : Called). steps_before longer choice (with_more placed it) c NeverReported) (sym is))
         (same_begins (after_steps progress placed.line (steps_of longer choice (with_more placed it))).records))
     by_told false reason =
         subst (λ (list : Listed). Begins (after_steps progress placed.line (steps_of longer choice (with_more placed it))).records list.records)
-        (sym (next_if longer choice (with_more placed it) others progress false both.without reason (ap (λ (c : Called). is_end c) is)))
+        (sym (next_if longer choice (with_more placed it) others progress false none reason (ap (λ (c : Called). is_end c) is)))
         (list_grows longer choice others (after_steps progress placed.line (steps_of longer choice (with_more placed it))))
 
-breaks_begins : (run longer : Run) (choice : Choice) (placed : Placed) (it : More placed) (others : List Placed) (progress : Progress) (one : Called) (why : Why) → Both run longer choice → IsKept run longer placed (with_more placed it) → placed.called ≡ one → why_at run placed ≡ Some why → Begins (after_steps progress placed.line (steps_before run choice placed one why)).records (list_from longer choice progress (with_more placed it ∷ others)).records
-breaks_begins run longer choice placed it others progress (StartsExchange request received sent awaited) NeverReported both kept is why =
-    exchange_begins run longer choice placed it others progress request received sent awaited both kept is why
-breaks_begins run longer choice placed it others progress _ _ both kept is why = list_grows longer choice (with_more placed it ∷ others) progress
+breaks_begins : (run longer : Run) (choice : Choice) (placed : Placed) (it : More placed) (others : List Placed) (progress : Progress) (one : Called) (why : Why) → Both run longer choice → choice.unreported ≡ unreported.Ends → NoSinks progress.records → IsKept run longer placed (with_more placed it) → placed.called ≡ one → why_at run placed ≡ Some why → Begins (after_steps progress placed.line (steps_before run choice placed one why)).records (list_from longer choice progress (with_more placed it ∷ others)).records
+breaks_begins run longer choice placed it others progress (StartsExchange request received sent awaited) NeverReported both without none kept is why =
+    exchange_begins run longer choice placed it others progress request received sent awaited both without none kept is why
+breaks_begins run longer choice placed it others progress _ _ both without none kept is why = list_grows longer choice (with_more placed it ∷ others) progress
 
 -- ---- A call that may make a communicator, of which none is reported ----
 
@@ -207,17 +209,17 @@ maker_steps : (run : Run) (choice : Choice) (placed : Placed) (comm : ℕ) → n
 maker_steps run choice placed comm number makes_one =
     ap (λ (o : Option ℕ). steps_by run choice placed o) number ∙ maker_does (here_at run choice placed comm) placed.called makes_one
 
-silent_begins : (run longer : Run) (choice : Choice) (placed : Placed) (it : More placed) (others : List Placed) (progress : Progress) → Both run longer choice → IsKept run longer placed (with_more placed it) → why_at run placed ≡ None → makes_comm placed.called ≡ true → BeginsButLast (list_from run choice progress (placed ∷ [])).records (list_from longer choice progress (with_more placed it ∷ others)).records
-silent_begins run longer choice placed it others progress both kept why makes_one =
+silent_begins : (run longer : Run) (choice : Choice) (placed : Placed) (it : More placed) (others : List Placed) (progress : Progress) → Both run longer choice → NoSinks progress.records → IsKept run longer placed (with_more placed it) → why_at run placed ≡ None → makes_comm placed.called ≡ true → BeginsButLast (list_from run choice progress (placed ∷ [])).records (list_from longer choice progress (with_more placed it ∷ others)).records
+silent_begins run longer choice placed it others progress both none kept why makes_one =
     let other = with_more placed it in
     let ends = maker_no_end placed.called makes_one in
     let parts = parts_of (has_report report.Failed placed.entry) (not (can_be run placed)) (lacks_number run placed) (is_unreported placed placed.called) (is_unknown placed placed.called) (breaks_none placed.called _ why) in
     let needs : is_none (number_at run placed) ≡ false = ap (λ (b : Bool). b && is_none (number_at run placed)) (sym (maker_needs placed.called makes_one)) ∙ parts.numbered in
     let number = some_number (number_at run placed) needs in
     let comm = number.0 in
-    let now = next_if run choice placed [] progress false both.without why ends
+    let now = next_if run choice placed [] progress false none why ends
     ∙ ap (λ (steps : List Step). list_from run choice (after_steps progress placed.line steps) []) (maker_steps run choice placed comm number.1 makes_one) in
-    let next = next_if longer choice other others progress false both.without (why_stays run longer placed it both.numbers kept why) ends
+    let next = next_if longer choice other others progress false none (why_stays run longer placed it both.numbers kept why) ends
     ∙ ap (λ (steps : List Step). list_from longer choice (after_steps progress placed.line steps) others)
     (maker_steps longer choice other comm (number_same run longer (named_key placed) both.numbers ∙ number.1) makes_one) in
     let made : Written = record { call = maker run placed comm; line = placed.line; starts = None } in
@@ -242,7 +244,7 @@ silent_more placed [] h = absurd (false≢true h)
 silent_more placed (one ∷ entries) h = h
 
 abbrev Rest : Run → Run → Choice → List Placed → List Placed → Type 0
-Rest run longer choice entries others = (new : Progress) → Stays entries (list_from run choice new entries).records (list_from longer choice new others).records
+Rest run longer choice entries others = (new : Progress) → NoSinks new.records → Stays entries (list_from run choice new entries).records (list_from longer choice new others).records
 
 stays_next : (run longer : Run) (choice : Choice) (placed : Placed) (entries : List Placed) (old new one other : List Written) → old ≡ one → new ≡ other → Stays entries one other → Stays (placed ∷ entries) old new
 stays_next run longer choice placed entries old new one other is also (inl begins) = inl (begins_as old new one other is also begins)
@@ -259,64 +261,80 @@ stays_next run longer choice placed entries old new one other is also (inr but) 
       new_is = also ∙ but.1.new_is;
     })
 
-going_stays : (run longer : Run) (choice : Choice) (placed : Placed) (it : More placed) (entries others : List Placed) (progress : Progress) → Both run longer choice → IsKept run longer placed (with_more placed it) → why_at run placed ≡ None → (makes_comm placed.called ≡ true → (comm : ℕ) → maker longer (with_more placed it) comm ≡ maker run placed comm) → Rest run longer choice entries others → Stays (placed ∷ entries) (list_from run choice progress (placed ∷ entries)).records (list_from longer choice progress (with_more placed it ∷ others)).records
-going_stays run longer choice placed it entries others progress both kept why same rest = by_end (is_end placed.called) refl
+going_stays : (run longer : Run) (choice : Choice) (placed : Placed) (it : More placed) (entries others : List Placed) (progress : Progress) → Both run longer choice → NoSinks progress.records → IsKept run longer placed (with_more placed it) → why_at run placed ≡ None → (makes_comm placed.called ≡ true → (comm : ℕ) → maker longer (with_more placed it) comm ≡ maker run placed comm) → Rest run longer choice entries others → Stays (placed ∷ entries) (list_from run choice progress (placed ∷ entries)).records (list_from longer choice progress (with_more placed it ∷ others)).records
+going_stays run longer choice placed it entries others progress both none kept why same rest = by_end (is_end placed.called) refl
   where
     by_end : (b : Bool) → is_end placed.called ≡ b → Stays (placed ∷ entries) (list_from run choice progress (placed ∷ entries)).records (list_from longer choice progress (with_more placed it ∷ others)).records
     by_end true ends =
         let records = (after_steps progress placed.line (WaitsForLate ∷ [])).records in
         inl (begins_as (list_from run choice progress (placed ∷ entries)).records (list_from longer choice progress (with_more placed it ∷ others)).records records records
-        (ap (λ (list : Listed). list.records) (next_if run choice placed entries progress true both.without why ends))
-        (ap (λ (list : Listed). list.records) (next_if longer choice (with_more placed it) others progress true both.without (why_stays run longer placed it both.numbers kept why) ends))
+        (ap (λ (list : Listed). list.records) (next_if run choice placed entries progress true none why ends))
+        (ap (λ (list : Listed). list.records) (next_if longer choice (with_more placed it) others progress true none (why_stays run longer placed it both.numbers kept why) ends))
         (same_begins records))
     by_end false ends =
         let parts = parts_of (has_report report.Failed placed.entry) (not (can_be run placed)) (lacks_number run placed) (is_unreported placed placed.called) (is_unknown placed placed.called) (breaks_none placed.called _ why) in
         let steps = steps_of run choice placed in
         let next = after_steps progress placed.line steps in
         stays_next run longer choice placed entries _ _ (list_from run choice next entries).records (list_from longer choice next others).records
-        (ap (λ (list : Listed). list.records) (next_if run choice placed entries progress false both.without why ends))
-        (ap (λ (list : Listed). list.records) (next_if longer choice (with_more placed it) others progress false both.without (why_stays run longer placed it both.numbers kept why) ends
+        (ap (λ (list : Listed). list.records) (next_if run choice placed entries progress false none why ends))
+        (ap (λ (list : Listed). list.records) (next_if longer choice (with_more placed it) others progress false none (why_stays run longer placed it both.numbers kept why) ends
         ∙ ap (λ (all : List Step). list_from longer choice (after_steps progress placed.line all) others)
         (steps_stay run longer choice placed it both.strict both.numbers parts.told parts.known same)))
-        (rest next)
+        (rest next (steps_none progress placed.line steps (steps_not run choice placed) none))
 
-entry_stays : (run longer : Run) (choice : Choice) (placed : Placed) (it : More placed) (entries others : List Placed) (progress : Progress) → Both run longer choice → IsKept run longer placed (with_more placed it) → (entries ≡ []) ⊎ IsOver placed (with_more placed it) → Rest run longer choice entries others → Stays (placed ∷ entries) (list_from run choice progress (placed ∷ entries)).records (list_from longer choice progress (with_more placed it ∷ others)).records
-entry_stays run longer choice placed it entries others progress both kept over rest = by_why (why_at run placed) refl
+entry_stays : (run longer : Run) (choice : Choice) (placed : Placed) (it : More placed) (entries others : List Placed) (progress : Progress) → Both run longer choice → (choice.unreported ≡ unreported.Ends) ⊎ (goes_on run placed ≡ true) → NoSinks progress.records → IsKept run longer placed (with_more placed it) → (entries ≡ []) ⊎ IsOver placed (with_more placed it) → Rest run longer choice entries others → Stays (placed ∷ entries) (list_from run choice progress (placed ∷ entries)).records (list_from longer choice progress (with_more placed it ∷ others)).records
+entry_stays run longer choice placed it entries others progress both mode none kept over rest = by_why (why_at run placed) refl
   where
     by_line : entries ≡ [] → makes_comm placed.called ≡ true → why_at run placed ≡ None → (o : Option Line) → report_of report.Comm placed.entry ≡ o → Stays (placed ∷ entries) (list_from run choice progress (placed ∷ entries)).records (list_from longer choice progress (with_more placed it ∷ others)).records
     by_line last makes_one why (Some line) is =
-        going_stays run longer choice placed it entries others progress both kept why
+        going_stays run longer choice placed it entries others progress both none kept why
         (λ also comm. told_maker run longer placed it comm line both.ranks both.numbers both.waves makes_one is) rest
     by_line last makes_one why None is =
         subst (λ (es : List Placed). Stays (placed ∷ es) (list_from run choice progress (placed ∷ es)).records (list_from longer choice progress (with_more placed it ∷ others)).records) (sym last)
-        (inr (rw (makes_one, is) refl, silent_begins run longer choice placed it others progress both kept why makes_one))
+        (inr (rw (makes_one, is) refl, silent_begins run longer choice placed it others progress both none kept why makes_one))
 
     by_maker : entries ≡ [] → why_at run placed ≡ None → (b : Bool) → makes_comm placed.called ≡ b → Stays (placed ∷ entries) (list_from run choice progress (placed ∷ entries)).records (list_from longer choice progress (with_more placed it ∷ others)).records
     by_maker last why true is = by_line last is why (report_of report.Comm placed.entry) refl
     by_maker last why false is =
-        going_stays run longer choice placed it entries others progress both kept why (λ also comm. absurd (false≢true (sym is ∙ also))) rest
+        going_stays run longer choice placed it entries others progress both none kept why (λ also comm. absurd (false≢true (sym is ∙ also))) rest
 
     by_last : (entries ≡ []) ⊎ IsOver placed (with_more placed it) → why_at run placed ≡ None → Stays (placed ∷ entries) (list_from run choice progress (placed ∷ entries)).records (list_from longer choice progress (with_more placed it ∷ others)).records
     by_last (inl last) why = by_maker last why (makes_comm placed.called) refl
     by_last (inr is) why =
-        going_stays run longer choice placed it entries others progress both kept why
+        going_stays run longer choice placed it entries others progress both none kept why
         (λ also comm. over_maker run longer placed it comm both.ranks both.numbers both.waves is) rest
+
+    by_mode : (choice.unreported ≡ unreported.Ends) ⊎ (goes_on run placed ≡ true) → (reason : Why) → why_at run placed ≡ Some reason → Stays (placed ∷ entries) (list_from run choice progress (placed ∷ entries)).records (list_from longer choice progress (with_more placed it ∷ others)).records
+    by_mode (inr goes) reason why = absurd (none-some reason (sym (none_of (why_at run placed) goes) ∙ why))
+    by_mode (inl without) reason why =
+        inl (subst (λ (list : Listed). Begins list.records (list_from longer choice progress (with_more placed it ∷ others)).records)
+        (sym (next_by run choice placed entries progress (Some reason) without why))
+        (breaks_begins run longer choice placed it others progress placed.called reason both without none kept refl why))
 
     by_why : (o : Option Why) → why_at run placed ≡ o → Stays (placed ∷ entries) (list_from run choice progress (placed ∷ entries)).records (list_from longer choice progress (with_more placed it ∷ others)).records
     by_why None why = by_last over why
-    by_why (Some reason) why =
-        inl (subst (λ (list : Listed). Begins list.records (list_from longer choice progress (with_more placed it ∷ others)).records)
-        (sym (next_by run choice placed entries progress (Some reason) both.without why))
-        (breaks_begins run longer choice placed it others progress placed.called reason both kept refl why))
+    by_why (Some reason) why = by_mode mode reason why
 
-lists_stay : (run longer : Run) (choice : Choice) (entries others : List Placed) (progress : Progress) → Both run longer choice → AreLater entries others → AllKept run longer entries others → Stays entries (list_from run choice progress entries).records (list_from longer choice progress others).records
-lists_stay run longer choice [] others progress both all kept = inl (list_grows longer choice others progress)
-lists_stay run longer choice (placed ∷ entries) [] progress both all kept = absurd all
-lists_stay run longer choice (placed ∷ entries) (other ∷ others) progress both all kept =
+abbrev Mode : Run → Choice → List Placed → Type 0
+Mode run choice entries = (choice.unreported ≡ unreported.Ends) ⊎ (list_all (goes_on run) entries ≡ true)
+
+mode_first : (run : Run) (choice : Choice) (placed : Placed) (entries : List Placed) → Mode run choice (placed ∷ entries) → (choice.unreported ≡ unreported.Ends) ⊎ (goes_on run placed ≡ true)
+mode_first run choice placed entries (inl without) = inl without
+mode_first run choice placed entries (inr goes) = inr (and_parts (goes_on run placed) (list_all (goes_on run) entries) goes).0
+
+mode_rest : (run : Run) (choice : Choice) (placed : Placed) (entries : List Placed) → Mode run choice (placed ∷ entries) → Mode run choice entries
+mode_rest run choice placed entries (inl without) = inl without
+mode_rest run choice placed entries (inr goes) = inr (and_parts (goes_on run placed) (list_all (goes_on run) entries) goes).1
+
+lists_stay : (run longer : Run) (choice : Choice) (entries others : List Placed) (progress : Progress) → Both run longer choice → Mode run choice entries → NoSinks progress.records → AreLater entries others → AllKept run longer entries others → Stays entries (list_from run choice progress entries).records (list_from longer choice progress others).records
+lists_stay run longer choice [] others progress both mode none all kept = inl (list_grows longer choice others progress)
+lists_stay run longer choice (placed ∷ entries) [] progress both mode none all kept = absurd all
+lists_stay run longer choice (placed ∷ entries) (other ∷ others) progress both mode none all kept =
     subst (λ (one : Placed). Stays (placed ∷ entries) (list_from run choice progress (placed ∷ entries)).records (list_from longer choice progress (one ∷ others)).records) (sym all.0.is)
-    (entry_stays run longer choice placed all.0.it entries others progress both (subst (λ (one : Placed). IsKept run longer placed one) all.0.is kept.0)
+    (entry_stays run longer choice placed all.0.it entries others progress both (mode_first run choice placed entries mode) none
+    (subst (λ (one : Placed). IsKept run longer placed one) all.0.is kept.0)
     (subst (λ (one : Placed). (entries ≡ []) ⊎ IsOver placed one) all.0.is all.1)
-    (λ new. lists_stay run longer choice entries others new both all.2 kept.1))
+    (λ new none_new. lists_stay run longer choice entries others new both (mode_rest run choice placed entries mode) none_new all.2 kept.1))
 
 -- ---- A rank ----
 
@@ -324,15 +342,14 @@ abbrev first_with : List Call → Progress
 first_with calls = record { records = written 0 calls; active = []; late = [] }
 
 pub what_is_told_stays : WhatIsToldStays
-what_is_told_stays run longer choice rank strict without read long kept gone =
+what_is_told_stays run longer choice rank strict mode read read_longer long kept =
+    let all = λ (other : ℕ). entries_later run longer other read_longer (long.more other) (long.none_gone other) in
     let both : Both run longer choice = record {
       strict = strict;
-      without = without;
       ranks = long.ranks;
       numbers = long.numbers;
-      waves = long.waves;
+      waves = waves_same run longer read long.ranks long.numbers all;
     } in
     subst (λ (progress : Progress). Stays (entries_at run rank) (whole_list run choice rank).records (list_from longer choice progress (entries_at longer rank)).records)
-    (sym (ap (λ (calls : List Call). first_with calls) long.preface))
-    (lists_stay run longer choice (entries_at run rank) (entries_at longer rank) (progress_first run rank) both
-    (entries_later run longer rank read long.more gone) kept)
+    (sym (ap (λ (calls : List Call). first_with calls) (long.prefaces rank)))
+    (lists_stay run longer choice (entries_at run rank) (entries_at longer rank) (progress_first run rank) both mode (first_none run rank) (all rank) kept)

@@ -1,5 +1,6 @@
 -- Law of journals that go on: what a list has so far stays as it is, whatever its calls.
 use Rattle.std.specs.Prelude.{◌≡◌, ◌⊎◌, ℕ, Bool, true, false, ◌&&◌, ◌==◌, is_none, List, [], ◌∷◌, ◌++◌, length}
+use Rattle.std.specs.List.{list_all}
 use Rattle.mpicall.specs.declared.call.Call.{Call}
 use Rattle.mpicall.specs.declared.call.Call.TheVariants.{Dup, Split, Coll}
 use Rattle.mpicall.specs.declared.call.Kind.TheVariants.{Barrier}
@@ -8,13 +9,13 @@ use Rattle.journals.specs.Faults.{is_free}
 use Rattle.journals.specs.Known.{has_report, report_of}
 use Rattle.journals.specs.declared.word.ReportWord.TheVariants as report
 use Rattle.closing.specs.Keys.{Key}
-use Rattle.closing.specs.RankComms.{Wave, makes_comm}
+use Rattle.closing.specs.RankComms.{makes_comm}
 use Rattle.closing.specs.Entries.{Run, Placed, lines_at, entries_at}
 use Rattle.closing.specs.Reported.{is_gone}
 use Rattle.closing.specs.Numbers.{number_of, preface_of}
 use Rattle.closing.specs.Steps.{Written}
-use Rattle.closing.specs.Endings.{can_be}
-use Rattle.closing.specs.Entry.{Choice, brings}
+use Rattle.closing.specs.Endings.{can_be, why_at}
+use Rattle.closing.specs.Entry.{Choice}
 use Rattle.closing.specs.Recording.{whole_list}
 use Rattle.closing.specs.declared.choice.Calls.TheVariants.{Strict}
 use Rattle.closing.specs.declared.choice.Unreported.TheVariants as unreported
@@ -27,13 +28,19 @@ pub record HasMore (run longer : Run) (rank : ℕ) : Type 0 where
   pub more : List Line
   pub lines : lines_at longer rank ≡ lines_at run rank ++ more
 
--- in both communicators have the same numbers, and a wave brings one with a number in both or in neither
-pub record IsLonger (run longer : Run) (rank : ℕ) : Type 0 where
+-- of a request so far it isn't reported later that it was cancelled
+abbrev pub NoneIsGone : Run → Run → ℕ → Type 0
+NoneIsGone run longer rank =
+    (request : ℕ) → is_free (lines_at run rank) request ≡ false →
+    is_gone (lines_at longer rank) request ≡ is_gone (lines_at run rank) request
+
+-- each journal goes on, whatever its header says; communicators have the same numbers
+pub record IsLonger (run longer : Run) : Type 0 where
   pub ranks : length longer ≡ length run
-  pub more : HasMore run longer rank
+  pub more : (rank : ℕ) → HasMore run longer rank
+  pub none_gone : (rank : ℕ) → NoneIsGone run longer rank
   pub numbers : (key : Key) → number_of longer key ≡ number_of run key
-  pub waves : (wave : Wave) → brings longer wave ≡ brings run wave
-  pub preface : preface_of longer rank ≡ preface_of run rank
+  pub prefaces : (rank : ℕ) → preface_of longer rank ≡ preface_of run rank
 
 -- of a call so far it isn't reported later that it failed, or a message that can't be
 pub record IsKept (run longer : Run) (placed later : Placed) : Type 0 where
@@ -45,11 +52,10 @@ abbrev pub AllKept : Run → Run → List Placed → List Placed → Type 0
 AllKept run longer (placed ∷ entries) (later ∷ others) = IsKept run longer placed later × AllKept run longer entries others
 AllKept run longer entries others = Unit {0}
 
--- nor of a request so far that it was cancelled
-abbrev pub NoneIsGone : Run → Run → ℕ → Type 0
-NoneIsGone run longer rank =
-    (request : ℕ) → is_free (lines_at run rank) request ≡ false →
-    is_gone (lines_at longer rank) request ≡ is_gone (lines_at run rank) request
+-- lists have no sinks, or no call so far ends the list
+abbrev pub IsWithoutSinks : Run → Choice → ℕ → Type 0
+IsWithoutSinks run choice rank =
+    (choice.unreported ≡ unreported.Ends) ⊎ (list_all (λ placed. is_none (why_at run placed)) (entries_at run rank) ≡ true)
 
 -- ---- The list ----
 
@@ -92,7 +98,6 @@ Stays entries old new = Begins old new ⊎ ((last_is_silent entries ≡ true) ×
 -- ends. Only a last call that may make a communicator, of which none is reported so far, may be another such call.
 abbrev pub WhatIsToldStays : Type 0
 WhatIsToldStays =
-    (run longer : Run) (choice : Choice) (rank : ℕ) → choice.calls ≡ Strict → choice.unreported ≡ unreported.Ends →
-    IsRead longer → IsLonger run longer rank → AllKept run longer (entries_at run rank) (entries_at longer rank) →
-    NoneIsGone run longer rank →
+    (run longer : Run) (choice : Choice) (rank : ℕ) → choice.calls ≡ Strict → IsWithoutSinks run choice rank →
+    IsRead run → IsRead longer → IsLonger run longer → AllKept run longer (entries_at run rank) (entries_at longer rank) →
     Stays (entries_at run rank) (whole_list run choice rank).records (whole_list longer choice rank).records
