@@ -3,7 +3,7 @@ use Rattle.std.proofs.Common.{◌≡◌, ◌⊎◌, ℕ, ◌+◌, ◌||◌, Bool
 use Rattle.std.specs.Prelude.{⊤}
 use Rattle.std.specs.List.{find, list_any}
 use Rattle.std.proofs.lemmas.Bool.{cases_Bool, false≢true}
-use Rattle.std.proofs.lemmas.List.Folds.{list_any-append, find-append}
+use Rattle.std.proofs.lemmas.List.Folds.{list_any-append}
 use Rattle.journals.specs.Lines.{Line}
 use Rattle.journals.specs.Words.{is_call}
 use Rattle.journals.specs.Faults.{is_free}
@@ -201,14 +201,14 @@ call_later rank journal later number comms before word fields lines more are als
         (also ∙ sym (append_assoc before (line ∷ []) (lines ++ more))) right.1 (new_taken before word fields request is) gone
 
     it : More (record {
-        rank = rank;
-        journal = journal;
-        line = number;
-        entry = entry lines;
-        called = called word fields;
-        comms = comms;
-        came_back = did_come_back journal (entry lines) lines;
-      })
+      rank = rank;
+      journal = journal;
+      line = number;
+      entry = entry lines;
+      called = called word fields;
+      comms = comms;
+      came_back = did_come_back journal (entry lines) lines;
+    })
     it = record {
       later = later;
       entry = entry (lines ++ more);
@@ -221,22 +221,22 @@ call_later rank journal later number comms before word fields lines more are als
     }
 
     over_by : has_call lines ≡ true → IsOver (record {
-        rank = rank;
-        journal = journal;
-        line = number;
-        entry = entry lines;
-        called = called word fields;
-        comms = comms;
-        came_back = did_come_back journal (entry lines) lines;
-      }) (record {
-        rank = rank;
-        journal = later;
-        line = number;
-        entry = entry (lines ++ more);
-        called = called word fields;
-        comms = comms;
-        came_back = did_come_back later (entry (lines ++ more)) (lines ++ more);
-      })
+      rank = rank;
+      journal = journal;
+      line = number;
+      entry = entry lines;
+      called = called word fields;
+      comms = comms;
+      came_back = did_come_back journal (entry lines) lines;
+    }) (record {
+      rank = rank;
+      journal = later;
+      line = number;
+      entry = entry (lines ++ more);
+      called = called word fields;
+      comms = comms;
+      came_back = did_come_back later (entry (lines ++ more)) (lines ++ more);
+    })
     over_by has = record {
       entry = ap (λ (early : List Line). record { word = word; fields = fields; reports = early }) (early_same lines more has);
       came = came_by journal (entry lines) lines has;
@@ -244,22 +244,22 @@ call_later rank journal later number comms before word fields lines more are als
     }
 
     over : (entries_from rank journal (number + 1) (after_line comms line) lines ≡ []) ⊎ IsOver (record {
-        rank = rank;
-        journal = journal;
-        line = number;
-        entry = entry lines;
-        called = called word fields;
-        comms = comms;
-        came_back = did_come_back journal (entry lines) lines;
-      }) (record {
-        rank = rank;
-        journal = later;
-        line = number;
-        entry = entry (lines ++ more);
-        called = called word fields;
-        comms = comms;
-        came_back = did_come_back later (entry (lines ++ more)) (lines ++ more);
-      })
+      rank = rank;
+      journal = journal;
+      line = number;
+      entry = entry lines;
+      called = called word fields;
+      comms = comms;
+      came_back = did_come_back journal (entry lines) lines;
+    }) (record {
+      rank = rank;
+      journal = later;
+      line = number;
+      entry = entry (lines ++ more);
+      called = called word fields;
+      comms = comms;
+      came_back = did_come_back later (entry (lines ++ more)) (lines ++ more);
+    })
     over =
         elim (cases_Bool (has_call lines)) [
           | inl has ↦ inr (over_by has)

@@ -1,13 +1,11 @@
 -- What a list has so far stays when its journal goes on.
-use Rattle.std.proofs.Common.{◌≡◌, ◌⊎◌, ℕ, ◌&&◌, ◌==◌, not, Bool, true, false, Option, Some, None, is_none, if◌then◌else◌, List, [], ◌∷◌, ◌++◌, length, refl, sym, ap, subst, ◌∙◌, append_assoc, append-nil, inl, inr}
-use Rattle.std.specs.Prelude.{⊤}
+use Rattle.std.proofs.Common.{◌≡◌, ◌⊎◌, ℕ, ◌&&◌, not, Bool, true, false, Option, Some, None, is_none, if◌then◌else◌, List, [], ◌∷◌, ◌++◌, length, refl, sym, ap, subst, ◌∙◌, append_assoc, append-nil, inl, inr}
 use Rattle.std.specs.List.{list_all}
 use Rattle.std.specs.Option.{option_map_or}
-use Rattle.std.proofs.lemmas.Bool.{and_parts, cases_Bool, false≢true}
+use Rattle.std.proofs.lemmas.Bool.{and_parts, false≢true}
 use Rattle.std.proofs.lemmas.Option.{none-some}
 use Rattle.mpicall.specs.Word.{or_else}
 use Rattle.mpicall.specs.declared.call.Call.{Call}
-use Rattle.mpicall.specs.declared.call.Call.TheVariants.{Finalize, Open}
 use Rattle.mpicall.specs.declared.call.Mode.TheVariants.{Standard}
 use Rattle.journals.specs.Lines.{Line}
 use Rattle.journals.specs.Known.{has_report, report_of}
@@ -16,26 +14,26 @@ use Rattle.closing.specs.Called.{Called, Sent, Awaited, StartsExchange, Duplicat
 use Rattle.closing.specs.Keys.{Key}
 use Rattle.closing.specs.RankComms.{Wave, makes_comm}
 use Rattle.closing.specs.Entries.{Run, Placed, entries_at}
-use Rattle.closing.specs.Numbers.{named_key, number_of, preface_of}
+use Rattle.closing.specs.Numbers.{named_key, number_of}
 use Rattle.closing.specs.Reported.{Message, is_gone}
 use Rattle.closing.specs.Steps.{Own, Step, Does, Starts, WaitsForLate, Written, Progress, plain as written, after_step, after_steps}
 use Rattle.closing.specs.Endings.{breaks_off, can_be, first_of, is_unknown, is_unreported, lacks_number, message_at, needs_number, number_at, why_at}
-use Rattle.closing.specs.Entry.{Choice, Here, here_at, start_send, start_receive, brings, maker, starts, knowing, on_comm, is_past, steps_by, steps_of}
-use Rattle.closing.specs.Recording.{Listed, ended, is_end, steps_before, outcome_by, outcome_in, go_on, list_from, progress_first, whole_list}
-use Rattle.closing.specs.Sinks.{Outcome, GoesOn, Ends}
+use Rattle.closing.specs.Entry.{Choice, Here, here_at, start_send, start_receive, brings, maker, starts, knowing, on_comm, steps_by, steps_of}
+use Rattle.closing.specs.Recording.{Listed, is_end, steps_before, go_on, list_from, progress_first, whole_list}
+use Rattle.closing.specs.Sinks.{Outcome}
 use Rattle.closing.specs.declared.choice.Calls.TheVariants.{Strict}
 use Rattle.closing.specs.declared.choice.Unreported.TheVariants as unreported
 use Rattle.closing.specs.declared.why.Why.{Why}
 use Rattle.closing.specs.declared.why.Why.TheVariants.{NeverCameBack, NeverReported, Failed, NoNumber, CannotBe}
-use Rattle.lawful.specs.Longer.{IsKept, AllKept, Begins, BeginsButLast, Stays, is_maker, is_silent, last_is_silent, WhatIsToldStays}
+use Rattle.lawful.specs.Longer.{IsKept, AllKept, Begins, BeginsButLast, Stays, last_is_silent, WhatIsToldStays}
 use Rattle.lawful.proofs.SinkCases.{in_as_of}
 use Rattle.lawful.proofs.NoSinks.{NoSinks, steps_none, steps_not}
 use Rattle.lawful.proofs.EndLemmas.{entry_list, end_list, first_none, goes_on, next_of, none_of}
 use Rattle.lawful.proofs.WalkLemmas.{breaks_none}
 use Rattle.lawful.proofs.SoFarLemmas.{grows_both, steps_grow, list_grows}
 use Rattle.lawful.proofs.NewNumbers.{Numbers}
-use Rattle.lawful.proofs.LongerLemmas.{StaysOf, More, with_more, IsOver, IsLater, AreLater, entries_later}
-use Rattle.lawful.proofs.LongerSteps.{Parts, parts_of, number_same, can_stay, why_stays, steps_stay}
+use Rattle.lawful.proofs.LongerLemmas.{StaysOf, More, with_more, IsOver, AreLater, entries_later}
+use Rattle.lawful.proofs.LongerSteps.{parts_of, number_same, can_stay, why_stays, steps_stay}
 use Rattle.lawful.proofs.LongerWaves.{waves_same}
 use Rattle.lawful.proofs.LongerMakers.{over_maker, told_maker, maker_makes}
 
@@ -249,17 +247,20 @@ Rest run longer choice entries others = (new : Progress) → NoSinks new.records
 stays_next : (run longer : Run) (choice : Choice) (placed : Placed) (entries : List Placed) (old new one other : List Written) → old ≡ one → new ≡ other → Stays entries one other → Stays (placed ∷ entries) old new
 stays_next run longer choice placed entries old new one other is also (inl begins) = inl (begins_as old new one other is also begins)
 stays_next run longer choice placed entries old new one other is also (inr but) =
-    inr (silent_more placed entries but.0, record {
-      before = but.1.before;
-      last = but.1.last;
-      other = but.1.other;
-      rest = but.1.rest;
-      comm = but.1.comm;
-      makes = but.1.makes;
-      also = but.1.also;
-      old_is = is ∙ but.1.old_is;
-      new_is = also ∙ but.1.new_is;
-    })
+    inr (
+      silent_more placed entries but.0,
+      record {
+        before = but.1.before;
+        last = but.1.last;
+        other = but.1.other;
+        rest = but.1.rest;
+        comm = but.1.comm;
+        makes = but.1.makes;
+        also = but.1.also;
+        old_is = is ∙ but.1.old_is;
+        new_is = also ∙ but.1.new_is;
+      },
+    )
 
 going_stays : (run longer : Run) (choice : Choice) (placed : Placed) (it : More placed) (entries others : List Placed) (progress : Progress) → Both run longer choice → NoSinks progress.records → IsKept run longer placed (with_more placed it) → why_at run placed ≡ None → (makes_comm placed.called ≡ true → (comm : ℕ) → maker longer (with_more placed it) comm ≡ maker run placed comm) → Rest run longer choice entries others → Stays (placed ∷ entries) (list_from run choice progress (placed ∷ entries)).records (list_from longer choice progress (with_more placed it ∷ others)).records
 going_stays run longer choice placed it entries others progress both none kept why same rest = by_end (is_end placed.called) refl

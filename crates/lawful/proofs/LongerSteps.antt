@@ -1,31 +1,28 @@
 -- What an entry stands for stays when its journal goes on.
-use Rattle.std.proofs.Common.{◌≡◌, ℕ, ◌&&◌, ◌||◌, ◌==◌, not, Bool, true, false, Option, Some, None, is_some, is_none, if◌then◌else◌, List, [], ◌∷◌, ◌++◌, length, filter, refl, sym, ap, subst, ◌∙◌}
-use Rattle.std.specs.Prelude.{⊤, pos, option_map, option_and_then}
-use Rattle.std.specs.List.{list_any, position_or_len}
+use Rattle.std.proofs.Common.{◌≡◌, ℕ, ◌&&◌, ◌||◌, not, Bool, true, false, Option, Some, None, is_some, is_none, if◌then◌else◌, List, [], ◌∷◌, ◌++◌, filter, refl, sym, ap, subst, ◌∙◌}
+use Rattle.std.specs.Prelude.{⊤, option_and_then}
+use Rattle.std.specs.List.{list_any}
 use Rattle.std.specs.Option.{option_map_or}
-use Rattle.std.specs.Str.{bytes_eq}
 use Rattle.std.proofs.lemmas.Bool.{false≢true}
 use Rattle.std.proofs.lemmas.List.Folds.{list_any-append}
 use Rattle.std.proofs.lemmas.Option.{none-some}
 use Rattle.mpicall.specs.Word.{or_else}
 use Rattle.mpicall.specs.declared.call.Call.{Call}
-use Rattle.mpicall.specs.declared.call.Call.TheVariants.{Dup, Split, Coll}
 use Rattle.mpicall.specs.declared.call.Mode.TheVariants.{Standard}
 use Rattle.mpicall.specs.declared.call.Kind.TheVariants as kind
 use Rattle.journals.specs.Lines.{Line}
-use Rattle.journals.specs.Entries.{Entry, group_in}
-use Rattle.journals.specs.Known.{chosen_of, has_report, report_of, requests_in}
+use Rattle.journals.specs.Entries.{Entry}
+use Rattle.journals.specs.Known.{has_report, report_of, requests_in}
 use Rattle.journals.specs.declared.word.ReportWord.TheVariants as report
-use Rattle.closing.specs.Called.{Called, Awaited, Sends, StartsSend, Receives, StartsReceive, Exchanges, StartsExchange, Probes, ProbesMatching, ReceivesMatched, Waits, Tests, WaitsAny, WaitsSome, Cancels, Collects, StartsCollective, Duplicates, StartsDuplicate, Splits, Makes, MakesOfGroup}
-use Rattle.closing.specs.Keys.{Key, group_of_key}
-use Rattle.closing.specs.RankComms.{Wave, makes_comm, made_in}
+use Rattle.closing.specs.Called.{Called, Awaited, StartsSend, Receives, StartsReceive, Exchanges, StartsExchange, Probes, ProbesMatching, ReceivesMatched, Waits, Tests, WaitsAny, WaitsSome, Cancels, StartsCollective, Duplicates, StartsDuplicate, Splits, Makes}
+use Rattle.closing.specs.Keys.{Key}
+use Rattle.closing.specs.RankComms.{makes_comm}
 use Rattle.closing.specs.Entries.{Run, Placed}
-use Rattle.closing.specs.Made.{wave_at, may_give, made_with, reported_group, reported_key, others_key, inferred_key, key_made}
 use Rattle.closing.specs.Numbers.{named_key, number_of}
 use Rattle.closing.specs.Reported.{Message, done_of, got_in, is_gone, is_kept, is_settled, message_in, message_of, says_gone, says_kept}
 use Rattle.closing.specs.Steps.{Id, Own, Step, Does, Starts, WaitsForAll, PutsOff}
 use Rattle.closing.specs.Endings.{awaited_at, breaks_off, can_be, chose_none, first_of, is_unknown, is_unreported, lacks_number, message_at, needs_number, number_at, why_at}
-use Rattle.closing.specs.Entry.{Choice, Here, here_at, send, start_send, receive, start_receive, exchange, probe, start_collective, kind_of, brings, parent_rank, split_key, giving_line, bare_line, maker_by, maker, id_of, is_of_send, ids_of, wait_for_all, pass_test, passes_tests, test, chosen, wait_for_one, wait_for_any, unless_past, starts, knowing, on_comm, on_none, is_past, steps_by, steps_of}
+use Rattle.closing.specs.Entry.{Choice, Here, start_send, start_receive, start_collective, kind_of, maker, id_of, is_of_send, ids_of, wait_for_all, pass_test, passes_tests, test, chosen, wait_for_one, wait_for_any, unless_past, starts, knowing, on_comm, on_none, is_past, steps_by, steps_of}
 use Rattle.closing.specs.declared.choice.Calls.TheVariants.{Strict}
 use Rattle.closing.specs.declared.why.Why.{Why}
 use Rattle.closing.specs.declared.why.Why.TheVariants.{NeverCameBack, NeverReported, Failed, NoNumber, CannotBe}
@@ -34,7 +31,7 @@ use Rattle.lawful.proofs.NewNumbers.{AllOf, Numbers}
 use Rattle.lawful.proofs.WalkLemmas.{breaks_none}
 use Rattle.lawful.proofs.PlainSteps.{strict_past}
 use Rattle.lawful.proofs.SoFarLemmas.{done_append, message_more}
-use Rattle.lawful.proofs.LongerLemmas.{StaysOf, KeepsReports, More, with_more, IsOver}
+use Rattle.lawful.proofs.LongerLemmas.{StaysOf, KeepsReports, More, with_more}
 
 -- ---- Messages ----
 

@@ -8,7 +8,7 @@ use Rattle.std.proofs.lemmas.List.Folds.{list_any-append}
 use Rattle.std.proofs.lemmas.Option.{none-some, same_Some}
 use Rattle.mpicall.specs.declared.limits.TheConstants.{GREATEST_COMM}
 use Rattle.journals.specs.Lines.{Line}
-use Rattle.journals.specs.Entries.{Entry, group_in, listing_of}
+use Rattle.journals.specs.Entries.{group_in, listing_of}
 use Rattle.journals.specs.Journal.{Journal}
 use Rattle.journals.specs.Known.{is_report, report_of}
 use Rattle.journals.specs.declared.field.Field.{Field}
@@ -20,7 +20,7 @@ use Rattle.journals.specs.declared.word.ReportWord.{ReportWord}
 use Rattle.journals.specs.declared.word.ReportWord.TheVariants as report
 use Rattle.closing.specs.Called.{Called, MakesOfGroup, called}
 use Rattle.closing.specs.FitComms.{comm_is_numbered, comms_are_numbered}
-use Rattle.closing.specs.Keys.{Key, World, Alone, Made, Duplicated, OfGroup, Apart, same_key, has_member, is_key_among, each_once}
+use Rattle.closing.specs.Keys.{Key, Made, Duplicated, same_key, has_member, is_key_among, each_once}
 use Rattle.closing.specs.RankComms.{Wave, RankComms, comms_first, comms_after, key_next, makes_comm, wave_next, made_in, duplicated_in, under, with_key, with_made, with_some, after_call, after_report, after_line, after_lines}
 use Rattle.closing.specs.Entries.{Run, Placed, journal_at, lines_in, entries_from, entries_in, lines_at, entries_at, all_entries, ranks_of}
 use Rattle.closing.specs.Made.{wave_at, is_wave, may_give, made_with, reported_key, keys_of_wave, others_key, inferred_key, keys_at}
@@ -135,8 +135,7 @@ OfWave wave key = (group : List ℕ) × (key ≡ Made wave.parent wave.count gro
 wave_same : (wave : Wave) (o : Option Wave) (group : List ℕ) (key : Key) → is_wave wave o ≡ true → made_with o group ≡ Some key → OfWave wave key
 wave_same wave None group key same made = absurd (none-some key made)
 wave_same wave (Some other) group key same made =
-    let parts = and_parts (same_key wave.parent other.parent) (wave.count == other.count) same in
-    (
+    let parts = and_parts (same_key wave.parent other.parent) (wave.count == other.count) same in (
       group,
       sym (same_Some (Made other.parent other.count group) key made)
           ∙ ap (λ (parent : Key). Made parent other.count group) (sym (same_key_is_equal wave.parent other.parent parts.0))
