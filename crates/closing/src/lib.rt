@@ -43,6 +43,7 @@ mod rank_comms;
 mod rank_numbers;
 pub mod recording;
 mod standing;
+mod started;
 mod stop;
 mod survey;
 pub mod walk;
