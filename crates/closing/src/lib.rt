@@ -16,6 +16,7 @@
 //! | `last` | the reports of an entry, and whether the last call came back | `Entries` |
 //! | `outcomes`, `message` | what is reported of requests; messages, and what can't be | `Reported`, `Endings` |
 //! | `freed` | the requests that a rank's program frees, and where its list starts them | `Freed` |
+//! | `started` | the active requests of a rank, by its own numbers | `Steps` |
 //! | `list` | the records of a rank so far, and its active requests with their numbers | `Steps` |
 //! | `walk` | one rank: what stands for its entries, and where and why its list ends | `Entry`, `Endings`, `Recording` |
 //!
