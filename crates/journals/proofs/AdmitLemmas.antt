@@ -76,7 +76,7 @@ module _ (lines : List Line) (last : Option LastCall) (notes : ℕ → Option No
       either true = refl
       either false = refl
 
-  completed_as : (number : ℕ) → is_completed lines number ≡ by_note (λ n. is_some n.completed) (notes number)
+  pub completed_as : (number : ℕ) → is_completed lines number ≡ by_note (λ n. is_some n.completed) (notes number)
   completed_as number = completed_is lines number ∙ rw ((known number).earlier, (known number).completed) (by (notes number))
     where
       by : (it : Option Note) → (by_note (λ n. is_earlier last n.completed) it || by_note (λ n. is_last last n.completed) it) ≡ by_note (λ n. is_some n.completed) it
@@ -255,6 +255,7 @@ module _ (ranks : ℕ) (lines : List Line) (last : Option LastCall) (is_held : I
       by report.Done may = rw (was.awaits, was.outcome) refl
       by report.Gone may = rw (was.cancelled, was.outcome) refl
       by report.Kept may = rw (was.cancelled, was.outcome) refl
+      by report.Moved may = rw (was.receive, was.outcome) refl
       by report.Idup may = rw (was.parent, was.completed, was.brought) refl
       by report.Got may = refl
       by report.Comm may = refl

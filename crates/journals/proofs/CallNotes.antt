@@ -25,7 +25,7 @@ use Rattle.journals.specs.declared.word.Word.TheVariants.{Call}
 use Rattle.journals.proofs.Tests.{and_false, and_true, or_false}
 use Rattle.journals.proofs.EntryLemmas.{new_entry, last_after_call, earlier_after_call, completed_is, any_push, parent_push}
 use Rattle.journals.proofs.UseLemmas.{numbers_are, use_of, is_use, among_use, after_use, IsPart, new_request_part, new_message_part, request_part, message_part, of_request_part}
-use Rattle.journals.proofs.LineForms.{no_numbers, any_replicate, same_numbers, receive_new, duplicate_new, requests_natural}
+use Rattle.journals.proofs.LineForms.{no_numbers, any_replicate, same_numbers, receive_new, wildcard_new, duplicate_new, requests_natural}
 
 abbrev call_line : CallWord → List Field → Line
 call_line word fields = record { word = Call word; fields = fields }
@@ -140,6 +140,7 @@ record Adds (word : CallWord) (fields : List Field) (number : ℕ) (how : Option
   kept : is_among number (numbers_by is_message (call_line word fields)) ≡ is_use is_message how
   called : is_among number (numbers_by is_of_request (call_line word fields)) ≡ is_use is_of_request how
   completed : is_among number (completed_by (new_entry word fields)) ≡ (completes_all word fields && (is_use is_request how || is_use is_message how))
+  receive : is_use is_new_request how ≡ false → is_some (receive_in number (Call word) fields) ≡ false
   awaits : is_use is_new_request how ≡ false → is_wildcard (receive_in number (Call word) fields) ≡ false
   parent : is_use is_new_request how ≡ false → duplicated_in number (Call word) fields ≡ None
 
@@ -158,7 +159,8 @@ adds ranks word fields number read distinct =
       kept = by is_message message_part;
       called = by is_of_request of_request_part;
       completed = rw (completes_new ranks word fields number read, by is_request request_part, by is_message message_part) refl;
-      awaits = λ none. false_from_ne_true _ (λ is. false≢true (sym (requests ∙ none) ∙ receive_new word fields number is));
+      receive = λ none. false_from_ne_true _ (λ is. false≢true (sym (requests ∙ none) ∙ receive_new word fields number is));
+      awaits = λ none. false_from_ne_true _ (λ is. false≢true (sym (requests ∙ none) ∙ wildcard_new word fields number is));
       parent = λ none. none_from _ (λ is. false≢true (sym (requests ∙ none) ∙ duplicate_new word fields number is));
     }
 
@@ -167,6 +169,7 @@ module _ (lines : List Line) (last : Option LastCall) (word : CallWord) (fields 
   grows : (how : Option Form) (before after : Option Note) → NoteIs lines last number before → Adds word fields number how
       → (by_note (λ it. not it.is_message) before || is_use is_new_request how) ≡ by_note (λ it. not it.is_message) after
       → (by_note (λ it. it.is_message) before || is_use is_new_message how) ≡ by_note (λ it. it.is_message) after
+      → (by_note (λ it. it.is_receive) before || is_some (receive_in number (Call word) fields)) ≡ by_note (λ it. it.is_receive) after
       → (by_note (λ it. it.awaits_any) before || is_wildcard (receive_in number (Call word) fields)) ≡ by_note (λ it. it.awaits_any) after
       → (by_note (λ it. it.is_cancelled) before || (is_cancel (Call word) && is_use is_request how)) ≡ by_note (λ it. it.is_cancelled) after
       → by_note (λ it. it.has_outcome) before ≡ by_note (λ it. it.has_outcome) after
@@ -179,9 +182,10 @@ module _ (lines : List Line) (last : Option LastCall) (word : CallWord) (fields 
       → (by_note (λ it. is_last (Some (new_last word (length lines))) (Some it.called)) after ≡ true → by_note (λ it. is_earlier (Some (new_last word (length lines))) it.completed) after ≡ false)
       → NoteBelow (length lines + 1) after
       → NoteIs (lines ++ call_line word fields ∷ []) (Some (new_last word (length lines))) number after
-  grows how before after was adds request message awaits cancelled outcome brought parent earlier completed called by_call not_before below = record {
+  grows how before after was adds request message receive awaits cancelled outcome brought parent earlier completed called by_call not_before below = record {
     request = any_push _ lines (call_line word fields) ∙ rw (was.request, adds.request) request;
     message = any_push _ lines (call_line word fields) ∙ rw (was.message, adds.message) message;
+    receive = any_push _ lines (call_line word fields) ∙ rw was.receive receive;
     awaits = any_push _ lines (call_line word fields) ∙ rw was.awaits awaits;
     cancelled = any_push _ lines (call_line word fields) ∙ rw (was.cancelled, adds.named) cancelled;
     outcome = any_push _ lines (call_line word fields) ∙ rw was.outcome (or_false _ ∙ outcome);
@@ -204,9 +208,9 @@ module _ (lines : List Line) (last : Option LastCall) (word : CallWord) (fields 
 
   unused : (before : Option Note) → NoteIs lines last number before → Adds word fields number None → NoteIs (lines ++ call_line word fields ∷ []) (Some (new_last word (length lines))) number before
   unused None was adds =
-      grows None None None was adds refl refl (adds.awaits refl) (never None refl false) refl refl (adds.parent refl) refl (and_false _) refl (λ is. cc) (λ is. refl) tt
+      grows None None None was adds refl refl (adds.receive refl) (adds.awaits refl) (never None refl false) refl refl (adds.parent refl) refl (and_false _) refl (λ is. cc) (λ is. refl) tt
   unused (Some note) was adds =
-      grows None (Some note) (Some note) was adds (or_false _) (or_false _) (rw (adds.awaits refl) (or_false _)) (never None refl note.is_cancelled) refl refl
+      grows None (Some note) (Some note) was adds (or_false _) (or_false _) (rw (adds.receive refl) (or_false _)) (rw (adds.awaits refl) (or_false _)) (never None refl note.is_cancelled) refl refl
       (rw (adds.parent refl) (or_else_nothing note.parent)) (earlier_now last word (length lines) note.completed was.below.0)
       (and_false _ ∙ sym (not_last word (length lines) note.completed was.below.0)) (sym (not_last word (length lines) (Some note.called) was.below.1))
       (λ is. absurd (false≢true (sym (not_last word (length lines) note.completed was.below.0) ∙ is)))
@@ -218,12 +222,12 @@ module _ (lines : List Line) (last : Option LastCall) (word : CallWord) (fields 
 
   starts : NoteIs lines last number None → Adds word fields number (Some NewRequest) → NoteIs (lines ++ call_line word fields ∷ []) (Some (new_last word (length lines))) number (Some (request_note word fields (length lines) number))
   starts was adds =
-      grows (Some NewRequest) None (Some (request_note word fields (length lines) number)) was adds refl refl refl (never (Some NewRequest) refl false) refl refl refl refl
+      grows (Some NewRequest) None (Some (request_note word fields (length lines) number)) was adds refl refl refl refl (never (Some NewRequest) refl false) refl refl refl refl
       (and_false _) (sym (here (length lines))) (λ is. here (length lines)) (λ is. refl) (tt, omega arith, tt)
 
   keeps : NoteIs lines last number None → Adds word fields number (Some NewMessage) → NoteIs (lines ++ call_line word fields ∷ []) (Some (new_last word (length lines))) number (Some (message_note (length lines)))
   keeps was adds =
-      grows (Some NewMessage) None (Some (message_note (length lines))) was adds refl refl (adds.awaits refl) (never (Some NewMessage) refl false) refl refl (adds.parent refl) refl
+      grows (Some NewMessage) None (Some (message_note (length lines))) was adds refl refl (adds.receive refl) (adds.awaits refl) (never (Some NewMessage) refl false) refl refl (adds.parent refl) refl
       (and_false _) (sym (here (length lines))) (λ is. here (length lines)) (λ is. refl) (tt, omega arith, tt)
 
   -- what a call that names it leaves of a number that wasn't completed
@@ -246,7 +250,7 @@ module _ (lines : List Line) (last : Option LastCall) (word : CallWord) (fields 
   names : (note : Note) → (how : Option Form) → (is_use is_request how || is_use is_message how) ≡ true → is_use is_new_request how ≡ false → is_use is_new_message how ≡ false → is_use is_of_request how ≡ true → (is_cancel (Call word) && is_use is_request how) ≡ is_cancel (Call word) → note.completed ≡ None → NoteIs lines last number (Some note) → Adds word fields number how → NoteIs (lines ++ call_line word fields ∷ []) (Some (new_last word (length lines))) number (Some (called_note word fields (length lines) note))
   names note how named no_request no_message of_request cancels not_before was adds =
       grows how (Some note) (Some (called_note word fields (length lines) note)) was adds
-      (rw no_request (or_false _)) (rw no_message (or_false _)) (rw (adds.awaits no_request) (or_false _)) (rw cancels refl) refl refl
+      (rw no_request (or_false _)) (rw no_message (or_false _)) (rw (adds.receive no_request) (or_false _)) (rw (adds.awaits no_request) (or_false _)) (rw cancels refl) refl refl
       (rw (adds.parent no_request) (or_else_nothing note.parent))
       (rw not_before (rw (last_none last) (sym (earlier_not (completes_all word fields) (length lines)))))
       (rw (named, not_before) (and_true _ ∙ sym (completed_now (completes_all word fields) (length lines))))

@@ -1,18 +1,19 @@
 -- What each line that is read says of the journal of a text.
-use Rattle.std.proofs.Common.{◌≡◌, ℕ, ◌+◌, ◌-◌, ◌≤◌, Bool, false, if◌then◌else◌, List, [], ◌∷◌, length, take, Option, Some, None, Result, Ok, Err, sym, ap, ◌∙◌, refl, subst, arith}
+use Rattle.std.proofs.Common.{◌≡◌, ℕ, ◌+◌, ◌-◌, ◌≤◌, Bool, false, if◌then◌else◌, List, [], ◌∷◌, length, take, Option, Some, None, option_map, Result, Ok, Err, sym, ap, ◌∙◌, refl, subst, arith}
 use Rattle.std.proofs.lemmas.Bool.{lt-leb}
 use Rattle.std.proofs.lemmas.List.{length-take}
 use Rattle.journals.specs.Text.{whole_lines, is_too_long}
 use Rattle.journals.specs.Lines.{Line, line_of}
 use Rattle.journals.specs.Header.{Heading, heading_of}
 use Rattle.journals.specs.Faults.{Owner, fault_of_line}
-use Rattle.journals.specs.Journal.{Fault, unless_fault, checked_line, line_after, read_on, lines_after, with_heading, no_header, after_header, journal_of_lines}
+use Rattle.journals.specs.Journal.{Fault, Journal, unless_fault, checked_line, line_after, read_on, lines_after, first_moved_wrongly, unless_moved_wrongly, unless_place, with_heading, no_header, after_header, journal_of_lines}
 use Rattle.journals.specs.inner.Knows.{Answers}
 use Rattle.journals.specs.Taking.{fields_at}
 use Rattle.journals.specs.inner.Taking.{Takes, TakesLine}
 use Rattle.journals.specs.inner.Reader.{coming, ComesNext, NoneComes}
-use Rattle.journals.specs.JournalAnswers.{heading_in, AnswersJournal}
-use Rattle.journals.specs.inner.JournalAnswers.{TakesText, FindsLine, IsNoHeader, HeadsJournal, AnswersLines, lines_to_come, AnswersComing, GoesOn, fault_as}
+use Rattle.journals.specs.JournalAnswers.{heading_in, AnswersJournal, FailsFrom}
+use Rattle.std.specs.Prelude.{IfErr}
+use Rattle.journals.specs.inner.JournalAnswers.{TakesText, FindsLine, IsNoHeader, HeadsJournal, AnswersLines, lines_to_come, AnswersComing, GoesOn, IsNoFailedRead, fault_as}
 use Rattle.journals.specs.declared.fault.JournalFaultKind.TheVariants as kind
 use Rattle.journals.specs.declared.header.Header.{Header}
 use Rattle.journals.specs.declared.journal.JournalError.{JournalError}
@@ -93,6 +94,48 @@ answers_back (Some said) None result on answers = cc
 answers_back (Some said) (Some other) result on answers =
     let same : other ≡ said = cc in subst (λ it. AnswersLines it result) same answers
 
+-- the same of lines whose moved receives are looked at last
+abbrev Checked : Option (Result (List Line) Fault) → Option (Result (List Line) Fault)
+Checked said = option_map unless_moved_wrongly said
+
+pub checked_last : (a b : Option (Result (List Line) Fault)) (lines : List Line) (result : Result (List Line) JournalError) → GoesOn a b → AnswersComing b (Ok lines) → AnswersLines (unless_moved_wrongly (Ok lines)) result → AnswersComing (Checked a) result
+checked_last None b lines result on answered checked = tt
+checked_last (Some said) None lines result on answered checked = cc
+checked_last (Some said) (Some other) lines result on answered checked =
+    let first : other ≡ said = cc in
+    let same : said ≡ Ok lines = sym first ∙ answered in
+    subst (λ it. AnswersLines (unless_moved_wrongly it) result) (sym same) checked
+
+failed_checked : (said : Result (List Line) Fault) (failed : JournalError) → AnswersLines said (Err failed) → AnswersLines (unless_moved_wrongly said) (Err failed)
+failed_checked said (error.Fault fault) answered = ap unless_moved_wrongly answered
+failed_checked said (error.ReadFailed line) answered = tt
+failed_checked said error.Memory answered = tt
+
+pub checked_failed : (a b : Option (Result (List Line) Fault)) (failed : JournalError) → GoesOn a b → AnswersComing b (Err failed) → AnswersComing (Checked a) (Err failed)
+checked_failed None b failed on answered = tt
+checked_failed (Some said) None failed on answered = cc
+checked_failed (Some said) (Some other) failed on answered =
+    let same : other ≡ said = cc in
+    failed_checked said failed (subst (λ it. AnswersLines it (Err failed)) same answered)
+
+-- no read failed of lines that are checked
+pub checked_cut : (number : ℕ) (old left : Option (List ℕ)) (result : Result (List Line) JournalError) → IfErr result IsNoFailedRead → FailsFrom {X = List Line} number old left result
+checked_cut number old left (Ok lines) whole = tt
+checked_cut number old left (Err (error.Fault fault)) whole = tt
+checked_cut number old left (Err (error.ReadFailed line)) whole = absurd whole
+checked_cut number old left (Err error.Memory) whole = tt
+
+-- ---- Lines that are all right ----
+
+placed_right : (heading : Heading) (lines : List Line) (place : Option ℕ) (journal : Journal) → with_heading heading (unless_place lines place) ≡ Ok journal → with_heading heading (Ok lines) ≡ Ok journal
+placed_right heading lines None journal is = is
+placed_right heading lines (Some place) journal is = cc
+
+-- a journal without a fault has the lines that were read one after another
+pub moved_right : (heading : Heading) (said : Result (List Line) Fault) (journal : Journal) → with_heading heading (unless_moved_wrongly said) ≡ Ok journal → with_heading heading said ≡ Ok journal
+moved_right heading (Err fault) journal is = is
+moved_right heading (Ok lines) journal is = placed_right heading lines (first_moved_wrongly lines 0 lines) journal is
+
 -- a line that is held isn't too long
 pub held_short : (held : List ℕ) (count : ℕ) → 1 ≤ count → count ≤ length held → count ≤ 32768 → is_too_long (take (count - 1) held) ≡ false
 held_short held count some within short = lt-leb 32768 (length (take (count - 1) held)) (omega (arith, length-take (count - 1) held))
@@ -110,11 +153,11 @@ answers_memory rank first None = tt
 answers_memory rank first (Some text) = tt
 
 -- the lines to come as they begin after the header
-pub answers_begun : (owner own : Owner) (lines : List Line) (window held : List ℕ) (left : Option (List ℕ)) (result : Result (List Line) JournalError) → owner ≡ own → lines ≡ [] → window ≡ held → AnswersComing (lines_to_come owner lines (coming window left)) result → AnswersComing (lines_to_come own [] (coming held left)) result
+pub answers_begun : (owner own : Owner) (lines : List Line) (window held : List ℕ) (left : Option (List ℕ)) (result : Result (List Line) JournalError) → owner ≡ own → lines ≡ [] → window ≡ held → AnswersComing (option_map unless_moved_wrongly (lines_to_come owner lines (coming window left))) result → AnswersComing (option_map unless_moved_wrongly (lines_to_come own [] (coming held left))) result
 answers_begun owner own lines window held left result owner_is lines_is window_is answered =
-    let of_held = subst (λ (w : List ℕ). AnswersComing (lines_to_come owner lines (coming w left)) result) window_is answered in
-    let of_none = subst (λ (ls : List Line). AnswersComing (lines_to_come owner ls (coming held left)) result) lines_is of_held in
-    subst (λ (o : Owner). AnswersComing (lines_to_come o [] (coming held left)) result) owner_is of_none
+    let of_held = subst (λ (w : List ℕ). AnswersComing (option_map unless_moved_wrongly (lines_to_come owner lines (coming w left))) result) window_is answered in
+    let of_none = subst (λ (ls : List Line). AnswersComing (option_map unless_moved_wrongly (lines_to_come owner ls (coming held left))) result) lines_is of_held in
+    subst (λ (o : Owner). AnswersComing (option_map unless_moved_wrongly (lines_to_come o [] (coming held left))) result) owner_is of_none
 
 -- the first line is too long, or a read failed before its end
 pub answers_long : (rank : ℕ) (first : Option Heading) (text : Option (List ℕ)) (held : List ℕ) (left : Option (List ℕ)) (failed : JournalError) → FindsLine 1 (coming [] text) held left (Err failed) → AnswersJournal rank first text (Err failed)
@@ -135,7 +178,7 @@ first_short rank first texts line rest next short =
 no_heading : (rank : ℕ) (first : Option Heading) (said : Option Heading) (rest : List (List ℕ)) → IsNoHeader first said → after_header rank first said rest ≡ no_header
 no_heading rank first None rest is = refl
 no_heading rank first (Some heading) rest is =
-    ap (λ (b : Bool). if b then with_heading heading (lines_after (record { ranks = heading.ranks; rank = rank }) [] rest) else no_header) is
+    ap (λ (b : Bool). if b then with_heading heading (unless_moved_wrongly (lines_after (record { ranks = heading.ranks; rank = rank }) [] rest)) else no_header) is
 
 pub answers_header : (rank : ℕ) (first : Option Heading) (text : Option (List ℕ)) (line : List ℕ) (rest : Option (List (List ℕ))) (failed : JournalError) → ComesNext (coming [] text) line rest → is_too_long line ≡ false → HeadsJournal first (heading_of rank line) (Err failed) → AnswersJournal rank first text (Err failed)
 answers_header rank first None line rest failed next short heads = tt
@@ -146,13 +189,13 @@ answers_header rank first (Some text) line (Some rest) (error.ReadFailed number)
 answers_header rank first (Some text) line (Some rest) error.Memory next short heads = tt
 
 -- what the lines after the header say
-after_heading : (rank : ℕ) (first : Option Heading) (texts : List (List ℕ)) (line : List ℕ) (rest : List (List ℕ)) (header : Header) → texts ≡ line ∷ rest → is_too_long line ≡ false → HeadsJournal first (heading_of rank line) (Ok header) → journal_of_lines rank first texts ≡ with_heading (heading_in header) (lines_after (record { ranks = header.ranks; rank = rank }) [] rest)
+after_heading : (rank : ℕ) (first : Option Heading) (texts : List (List ℕ)) (line : List ℕ) (rest : List (List ℕ)) (header : Header) → texts ≡ line ∷ rest → is_too_long line ≡ false → HeadsJournal first (heading_of rank line) (Ok header) → journal_of_lines rank first texts ≡ with_heading (heading_in header) (unless_moved_wrongly (lines_after (record { ranks = header.ranks; rank = rank }) [] rest))
 after_heading rank first texts line rest header next short heads =
     first_short rank first texts line rest next short
     ∙ ap (λ it. after_header rank first it rest) heads.0
-    ∙ ap (λ (b : Bool). if b then with_heading (heading_in header) (lines_after (record { ranks = header.ranks; rank = rank }) [] rest) else no_header) heads.1
+    ∙ ap (λ (b : Bool). if b then with_heading (heading_in header) (unless_moved_wrongly (lines_after (record { ranks = header.ranks; rank = rank }) [] rest)) else no_header) heads.1
 
-pub answers_wrong : (rank : ℕ) (first : Option Heading) (text : Option (List ℕ)) (line : List ℕ) (rest : Option (List (List ℕ))) (header : Header) (failed : JournalError) → ComesNext (coming [] text) line rest → is_too_long line ≡ false → HeadsJournal first (heading_of rank line) (Ok header) → AnswersComing (lines_to_come (record { ranks = header.ranks; rank = rank }) [] rest) (Err failed) → AnswersJournal rank first text (Err failed)
+pub answers_wrong : (rank : ℕ) (first : Option Heading) (text : Option (List ℕ)) (line : List ℕ) (rest : Option (List (List ℕ))) (header : Header) (failed : JournalError) → ComesNext (coming [] text) line rest → is_too_long line ≡ false → HeadsJournal first (heading_of rank line) (Ok header) → AnswersComing (option_map unless_moved_wrongly (lines_to_come (record { ranks = header.ranks; rank = rank }) [] rest)) (Err failed) → AnswersJournal rank first text (Err failed)
 answers_wrong rank first None line rest header failed next short heads answers = tt
 answers_wrong rank first (Some text) line None header failed next short heads answers = absurd next
 answers_wrong rank first (Some text) line (Some rest) header (error.Fault fault) next short heads answers =
@@ -160,7 +203,7 @@ answers_wrong rank first (Some text) line (Some rest) header (error.Fault fault)
 answers_wrong rank first (Some text) line (Some rest) header (error.ReadFailed number) next short heads answers = tt
 answers_wrong rank first (Some text) line (Some rest) header error.Memory next short heads answers = tt
 
-pub answers_all : (rank : ℕ) (first : Option Heading) (text : Option (List ℕ)) (line : List ℕ) (rest : Option (List (List ℕ))) (header : Header) (lines : List Line) → ComesNext (coming [] text) line rest → is_too_long line ≡ false → HeadsJournal first (heading_of rank line) (Ok header) → AnswersComing (lines_to_come (record { ranks = header.ranks; rank = rank }) [] rest) (Ok lines) → AnswersJournal rank first text (Ok (record { header = header; lines = lines }))
+pub answers_all : (rank : ℕ) (first : Option Heading) (text : Option (List ℕ)) (line : List ℕ) (rest : Option (List (List ℕ))) (header : Header) (lines : List Line) → ComesNext (coming [] text) line rest → is_too_long line ≡ false → HeadsJournal first (heading_of rank line) (Ok header) → AnswersComing (option_map unless_moved_wrongly (lines_to_come (record { ranks = header.ranks; rank = rank }) [] rest)) (Ok lines) → AnswersJournal rank first text (Ok (record { header = header; lines = lines }))
 answers_all rank first None line rest header lines next short heads answers = tt
 answers_all rank first (Some text) line None header lines next short heads answers = absurd next
 answers_all rank first (Some text) line (Some rest) header lines next short heads answers =

@@ -8,7 +8,8 @@ pub mod PushLemmas
 pub mod PackingLemmas
 pub mod RememberedLemmas
 mod Rows
-pub mod NoteSteps
+pub mod MovedLemmas
+mod NoteSteps
 pub mod NoteTable
 pub mod Tests
 pub mod GroupLemmas

@@ -57,8 +57,8 @@ among_cons number (Some other) numbers is = rw is (or_so (other == number))
     or_so true = refl
     or_so false = refl
 
--- a receive with a wildcard is that of a request that the line numbers
-pub receive_new : (word : CallWord) (fields : List Field) (number : ℕ) → is_wildcard (receive_in number (Call word) fields) ≡ true → is_among number (numbers_by is_new_request (record { word = Call word; fields = fields })) ≡ true
+-- a receive is that of a request that the line numbers
+pub receive_new : (word : CallWord) (fields : List Field) (number : ℕ) → is_some (receive_in number (Call word) fields) ≡ true → is_among number (numbers_by is_new_request (record { word = Call word; fields = fields })) ≡ true
 receive_new call.Irecv (Natural request ∷ comm ∷ source ∷ tag ∷ []) number is =
     elim (cases_Bool (request == number)) [
       | inl here ↦ rw here refl
@@ -70,6 +70,14 @@ receive_new call.Isendrecv (sent ∷ Natural request ∷ comm ∷ dest ∷ tag �
       | inr apart ↦ absurd (false≢true (rw apart at is))
     ]
 receive_new _ _ number is = cc
+
+-- so is one with a wildcard
+some_wildcard : (it : Option (Field × Field)) → is_wildcard it ≡ true → is_some it ≡ true
+some_wildcard None is = cc
+some_wildcard (Some it) is = refl
+
+pub wildcard_new : (word : CallWord) (fields : List Field) (number : ℕ) → is_wildcard (receive_in number (Call word) fields) ≡ true → is_among number (numbers_by is_new_request (record { word = Call word; fields = fields })) ≡ true
+wildcard_new word fields number is = receive_new word fields number (some_wildcard (receive_in number (Call word) fields) is)
 
 -- so is a nonblocking duplicate
 pub duplicate_new : (word : CallWord) (fields : List Field) (number : ℕ) → is_some (duplicated_in number (Call word) fields) ≡ true → is_among number (numbers_by is_new_request (record { word = Call word; fields = fields })) ≡ true

@@ -234,6 +234,7 @@ completed_more ranks lines (Some last) word fields number is not_failed follows 
     by_word report.Done fail may named = plain report.Done refl refl refl
     by_word report.Gone fail may named = plain report.Gone refl refl refl
     by_word report.Kept fail may named = plain report.Kept refl refl refl
+    by_word report.Moved fail may named = plain report.Moved refl refl refl
     by_word report.Comm fail may named = plain report.Comm refl refl refl
     by_word report.Idup fail may named = plain report.Idup refl refl refl
     by_word report.NoComm fail may named = plain report.NoComm refl refl refl
@@ -245,6 +246,7 @@ module _ (lines : List Line) (last : Option LastCall) (word : ReportWord) (field
       → is_among number (numbers_by is_new_message (report_line word fields)) ≡ false
       → by_note (λ it. not it.is_message) before ≡ by_note (λ it. not it.is_message) after
       → by_note (λ it. it.is_message) before ≡ by_note (λ it. it.is_message) after
+      → by_note (λ it. it.is_receive) before ≡ by_note (λ it. it.is_receive) after
       → by_note (λ it. it.awaits_any) before ≡ by_note (λ it. it.awaits_any) after
       → by_note (λ it. it.is_cancelled) before ≡ by_note (λ it. it.is_cancelled) after
       → (by_note (λ it. it.has_outcome) before || (is_outcome (Report word) && is_among number (numbers_by is_request (report_line word fields)))) ≡ by_note (λ it. it.has_outcome) after
@@ -257,9 +259,10 @@ module _ (lines : List Line) (last : Option LastCall) (word : ReportWord) (field
       → (by_note (λ it. is_last last (Some it.called)) after ≡ true → by_note (λ it. is_earlier last it.completed) after ≡ false)
       → NoteBelow (length lines + 1) after
       → NoteIs (lines ++ report_line word fields ∷ []) (option_map (with_report word) last) number after
-  report_grows before after was no_request no_message request message awaits cancelled outcome brought parent earlier completed called by_call not_before below = record {
+  report_grows before after was no_request no_message request message receive awaits cancelled outcome brought parent earlier completed called by_call not_before below = record {
     request = any_push _ lines (report_line word fields) ∙ rw (was.request, no_request) (or_false _ ∙ request);
     message = any_push _ lines (report_line word fields) ∙ rw (was.message, no_message) (or_false _ ∙ message);
+    receive = any_push _ lines (report_line word fields) ∙ rw was.receive (or_false _ ∙ receive);
     awaits = any_push _ lines (report_line word fields) ∙ rw was.awaits (or_false _ ∙ awaits);
     cancelled = any_push _ lines (report_line word fields) ∙ rw was.cancelled (or_false _ ∙ cancelled);
     outcome = any_push _ lines (report_line word fields) ∙ rw was.outcome outcome;
@@ -280,7 +283,7 @@ module _ (lines : List Line) (last : Option LastCall) (word : ReportWord) (field
   -- a number that the report doesn't name
   report_unused : (before : Option Note) → NoteIs lines last number before → is_among number (numbers_by is_new_request (report_line word fields)) ≡ false → is_among number (numbers_by is_new_message (report_line word fields)) ≡ false → is_among number (numbers_by is_request (report_line word fields)) ≡ false → completed_last (option_map (add_report (report_line word fields)) (last_entry lines)) number ≡ completed_last (last_entry lines) number → NoteIs (lines ++ report_line word fields ∷ []) (option_map (with_report word) last) number before
   report_unused before was no_request no_message none same =
-      report_grows before before was no_request no_message refl refl refl refl
+      report_grows before before was no_request no_message refl refl refl refl refl
       (rw none (ap (λ (b : Bool). by_note (λ it. it.has_outcome) before || b) (and_false _) ∙ or_false _))
       (rw none (ap (λ (b : Bool). by_note (λ it. it.is_brought) before || b) (and_false _) ∙ or_false _))
       refl refl (same ∙ was.completed) refl was.by_call was.not_before (note_below_more (length lines) before was.below)
@@ -293,7 +296,7 @@ module _ (lines : List Line) (last : Option LastCall) (word : ReportWord) (field
       → IsBelow (length lines + 1) (or_before completed note.completed)
       → NoteIs (lines ++ report_line word fields ∷ []) (option_map (with_report word) last) number (Some (reported_note word (length lines) completed note))
   report_used note completed was no_request no_message among now earlier by_call below =
-      report_grows (Some note) (Some (reported_note word (length lines) completed note)) was no_request no_message refl refl refl refl
+      report_grows (Some note) (Some (reported_note word (length lines) completed note)) was no_request no_message refl refl refl refl refl
       (rw among (ap (λ (b : Bool). note.has_outcome || b) (and_true _)))
       (rw among (ap (λ (b : Bool). note.is_brought || b) (and_true _)))
       refl earlier now refl by_call (λ is. sym earlier ∙ was.not_before is)
@@ -356,7 +359,7 @@ module _ (ranks : ℕ) (lines : List Line) (last : Option LastCall) (word : Repo
   undone call None was =
       report_unused lines (Some call) report.Failed fields number None was refl refl refl (failed_last (last_entry lines) ∙ sym was.completed)
   undone call (Some note) was =
-      report_grows lines (Some call) report.Failed fields number (Some note) (Some (undone_note call.line note)) was refl refl refl refl refl refl
+      report_grows lines (Some call) report.Failed fields number (Some note) (Some (undone_note call.line note)) was refl refl refl refl refl refl refl
       (or_false _) (or_false _) refl (without_earlier call note.completed)
       (failed_last (last_entry lines) ∙ sym (without_last call note.completed)) refl
       (λ done. absurd (false≢true (sym (without_last call note.completed) ∙ done)))

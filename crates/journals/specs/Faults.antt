@@ -4,7 +4,7 @@ use Rattle.std.specs.List.{list_any, list_all}
 use Rattle.std.specs.Str.{bytes_eq}
 use Rattle.journals.specs.Lines.{Line}
 use Rattle.journals.specs.Entries.{Entry, call_of, last_entry, numbers_by, is_new_request, is_new_message, is_request, is_message, is_of_request, is_comm, is_new_comm, group_in}
-use Rattle.journals.specs.Known.{is_among, are_distinct, knows_request, knows_message, has_report, completed_by, is_completed, awaits_any, is_cancelled, has_outcome, is_brought, parent_of, group_of, knows_comm}
+use Rattle.journals.specs.Known.{is_among, are_distinct, knows_request, knows_message, has_report, completed_by, is_completed, is_report, is_of_receive, awaits_any, is_cancelled, has_outcome, is_brought, parent_of, group_of, knows_comm}
 use Rattle.journals.specs.declared.field.Field.{Field}
 use Rattle.journals.specs.declared.field.Field.TheVariants.{Undefined}
 use Rattle.journals.specs.declared.word.Word.{Word}
@@ -21,6 +21,7 @@ use Rattle.journals.specs.declared.fault.JournalFaultKind.TheVariants.{AfterEnd,
 abbrev pub ends_journal : Word → Bool
 ends_journal (Call call.Finalize) = true
 ends_journal (Call call.Exit) = true
+ends_journal (Call call.Cut) = true
 ends_journal _ = false
 
 abbrev pub is_after_end : List Line → Bool
@@ -70,6 +71,7 @@ may_fail call.Abort = false
 may_fail call.Exit = false
 may_fail call.Full = false
 may_fail call.Stopped = false
+may_fail call.Cut = false
 may_fail _ = true
 
 abbrev pub brought_or_not : Entry → Bool
@@ -90,6 +92,7 @@ abbrev pub may_be_anywhere : ReportWord → Bool
 may_be_anywhere report.Done = true
 may_be_anywhere report.Gone = true
 may_be_anywhere report.Kept = true
+may_be_anywhere report.Moved = true
 may_be_anywhere report.Apart = true
 may_be_anywhere _ = false
 
@@ -112,6 +115,7 @@ may_be_of report.Chose before request = names_last (last_entry before) request
 may_be_of report.Done before request = awaits_any before request && not (has_outcome before request)
 may_be_of report.Gone before request = is_cancelled before request && not (has_outcome before request)
 may_be_of report.Kept before request = is_cancelled before request && not (has_outcome before request)
+may_be_of report.Moved before request = is_of_receive before request && not (has_outcome before request)
 may_be_of report.Idup before request =
     is_some (parent_of before request) && completed_last (last_entry before) request
     && not (is_brought before request)
@@ -127,6 +131,26 @@ abbrev pub is_out_of_place : List Line → Line → Word → Bool
 is_out_of_place before line (Call word) = false
 is_out_of_place before line (Report word) =
     not (may_follow word (length line.fields) (last_entry before)) || names_unfit word before line
+
+-- ---- Moved receives ----
+
+abbrev pub is_cut : CallWord → Bool
+is_cut call.Cut = true
+is_cut word = false
+
+abbrev pub is_entry_cut : Option Entry → Bool
+is_entry_cut None = false
+is_entry_cut (Some entry) = is_cut entry.word
+
+-- the journal ends where nothing is under way, and the rank goes on in another
+abbrev pub ends_with_cut : List Line → Bool
+ends_with_cut lines = is_entry_cut (last_entry lines)
+
+-- the line reports a receive to be moved, and the journal completes it, or doesn't end with a cut
+abbrev pub is_moved_wrongly : List Line → Line → Bool
+is_moved_wrongly lines line =
+    is_report report.Moved line.word
+    && (not (ends_with_cut lines) || list_any (is_completed lines) (numbers_by is_request line))
 
 -- ---- Requests ----
 

@@ -1,11 +1,12 @@
--- A journal: what its header and its lines say, or its first fault.
+-- A journal: what its header and its lines say, or its first fault. Where no line has a fault by the lines before it,
+-- the first report of a moved receive that the journal as a whole can't have is one.
 use Rattle.std.specs.Prelude.{ℕ, ◌+◌, if◌then◌else◌, Option, Some, None, Result, Ok, Err, List, [], ◌∷◌, ◌++◌, length}
 use Rattle.journals.specs.Text.{is_too_long}
 use Rattle.journals.specs.Lines.{Line, line_of}
 use Rattle.journals.specs.Header.{Heading, heading_of, is_of_run}
-use Rattle.journals.specs.Faults.{Owner, fault_of_line}
+use Rattle.journals.specs.Faults.{Owner, fault_of_line, is_moved_wrongly}
 use Rattle.journals.specs.declared.fault.JournalFaultKind.{JournalFaultKind}
-use Rattle.journals.specs.declared.fault.JournalFaultKind.TheVariants.{Header, TooLong}
+use Rattle.journals.specs.declared.fault.JournalFaultKind.TheVariants.{Header, OutOfPlace, TooLong}
 
 -- the number of a line, the header being line 1, and its fault
 pub record Fault : Type 0 where
@@ -41,6 +42,21 @@ lines_after owner before [] = Ok before
 lines_after owner before (text ∷ texts) =
     read_on before (line_after owner before text) (λ lines. lines_after owner lines texts)
 
+-- the place of the first report of a moved receive that the lines can't have, among those from a place on
+abbrev pub first_moved_wrongly : List Line → ℕ → List Line → Option ℕ
+first_moved_wrongly lines place [] = None
+first_moved_wrongly lines place (line ∷ others) =
+    if is_moved_wrongly lines line then Some place else first_moved_wrongly lines (place + 1) others
+
+abbrev pub unless_place : List Line → Option ℕ → Result (List Line) Fault
+unless_place lines None = Ok lines
+unless_place lines (Some place) = Err (record { line = place + 2; kind = OutOfPlace })
+
+-- each receive that the lines report to be moved may be
+abbrev pub unless_moved_wrongly : Result (List Line) Fault → Result (List Line) Fault
+unless_moved_wrongly (Err fault) = Err fault
+unless_moved_wrongly (Ok lines) = unless_place lines (first_moved_wrongly lines 0 lines)
+
 abbrev pub with_heading : Heading → Result (List Line) Fault → Result Journal Fault
 with_heading heading (Err fault) = Err fault
 with_heading heading (Ok lines) = Ok (record { heading = heading; lines = lines })
@@ -52,7 +68,7 @@ abbrev pub after_header : ℕ → Option Heading → Option Heading → List (Li
 after_header rank first None texts = no_header
 after_header rank first (Some heading) texts =
     if is_of_run first heading
-    then with_heading heading (lines_after (record { ranks = heading.ranks; rank = rank }) [] texts)
+    then with_heading heading (unless_moved_wrongly (lines_after (record { ranks = heading.ranks; rank = rank }) [] texts))
     else no_header
 
 -- the journal of a rank that whole lines spell, or its first fault; `first` is the header of rank 0's

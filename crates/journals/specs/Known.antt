@@ -38,6 +38,7 @@ is_report report.Chose (Report report.Chose) = true
 is_report report.Done (Report report.Done) = true
 is_report report.Gone (Report report.Gone) = true
 is_report report.Kept (Report report.Kept) = true
+is_report report.Moved (Report report.Moved) = true
 is_report report.Comm (Report report.Comm) = true
 is_report report.Idup (Report report.Idup) = true
 is_report report.NoComm (Report report.NoComm) = true
@@ -103,6 +104,10 @@ abbrev pub is_wildcard : Option (Field × Field) → Bool
 is_wildcard None = false
 is_wildcard (Some message) = has_wildcard message
 
+-- the request is that of a started receive
+abbrev pub is_of_receive : List Line → ℕ → Bool
+is_of_receive lines number = list_any (λ line. is_some (receive_in number line.word line.fields)) lines
+
 -- the request is that of a receive with a wildcard
 abbrev pub awaits_any : List Line → ℕ → Bool
 awaits_any lines number = list_any (λ line. is_wildcard (receive_in number line.word line.fields)) lines
@@ -117,9 +122,10 @@ is_cancelled lines number =
     list_any (λ line. is_cancel line.word && is_among number (numbers_by is_request line)) lines
 
 abbrev pub is_outcome : Word → Bool
-is_outcome word = is_report report.Done word || is_report report.Gone word || is_report report.Kept word
+is_outcome word =
+    is_report report.Done word || is_report report.Gone word || is_report report.Kept word || is_report report.Moved word
 
--- its message, or what came of its cancel, was reported
+-- its message, what came of its cancel, or that it is moved was reported
 abbrev pub has_outcome : List Line → ℕ → Bool
 has_outcome lines number =
     list_any (λ line. is_outcome line.word && is_among number (numbers_by is_request line)) lines

@@ -46,6 +46,7 @@ call_row call.Abort = fixed (codes "abort") []
 call_row call.Exit = fixed (codes "exit") []
 call_row call.Full = fixed (codes "full") []
 call_row call.Stopped = record { text = codes "stopped"; forms = []; more = more.Text }
+call_row call.Cut = fixed (codes "cut") []
 call_row call.Send = with_bytes (codes "send") to_peer
 call_row call.Ssend = fixed (codes "ssend") to_peer
 call_row call.Bsend = fixed (codes "bsend") to_peer
@@ -103,6 +104,7 @@ report_row report.Chose = with_several (codes "=chose") [] Request
 report_row report.Done = fixed (codes "=done") (Request ∷ Peer ∷ Tag ∷ [])
 report_row report.Gone = fixed (codes "=gone") (Request ∷ [])
 report_row report.Kept = fixed (codes "=kept") (Request ∷ [])
+report_row report.Moved = fixed (codes "=moved") (Request ∷ [])
 report_row report.Comm = with_several (codes "=comm") (NewComm ∷ []) Member
 report_row report.Idup = with_several (codes "=idup") (NewComm ∷ Request ∷ []) Member
 report_row report.NoComm = fixed (codes "=none") []
@@ -124,13 +126,13 @@ call_words =
     ∷ call.Igather ∷ call.Iscatter ∷ call.Ireduce ∷ call.Iallgather ∷ call.Ialltoall ∷ call.Iallreduce
     ∷ call.Iscan ∷ call.Iexscan ∷ call.CommDup ∷ call.CommSplit ∷ call.CommMake ∷ call.CommIdup
     ∷ call.CommCreateGroup ∷ call.CommFree ∷ call.Init ∷ call.Finalize ∷ call.Abort ∷ call.Exit ∷ call.Full
-    ∷ call.Stopped ∷ []
+    ∷ call.Stopped ∷ call.Cut ∷ []
 
 abbrev pub report_words : List ReportWord
 report_words =
     report.Got ∷ report.Chose ∷ report.Done ∷ report.Gone ∷ report.Kept ∷ report.Comm ∷ report.Idup
     ∷ report.NoComm
-    ∷ report.Apart ∷ report.Failed ∷ []
+    ∷ report.Apart ∷ report.Failed ∷ report.Moved ∷ []
 
 -- the first word of a table that has a text
 abbrev pub word_in : {A : Type 0} → List (List ℕ × A) → List ℕ → Option A

@@ -51,6 +51,7 @@ fn call_comm_place(word: CallWord) -> Option<usize>
         | CallWord::Exit
         | CallWord::Full
         | CallWord::Stopped
+        | CallWord::Cut
         | CallWord::Mrecv
         | CallWord::Imrecv
         | CallWord::Wait

@@ -21,14 +21,14 @@ pub enum JournalFaultKind {
     FieldCount,
     #[error("field out of form or range")]
     FieldForm,
-    /// The line comes after `finalize` or `exit`.
+    /// The line comes after `finalize`, `exit` or `cut`.
     #[error("line behind the end")]
     AfterEnd,
     /// The line has more than 32,768 bytes, its line feed counted.
     #[error("line too long")]
     TooLong,
-    /// A report that the call line before it can't have, or has already; or one of a known request that can't
-    /// have it.
+    /// A report that the call line before it can't have, or has already; one of a known request that can't have
+    /// it; or one of a moved receive that was completed, or in a journal that doesn't end with a cut.
     #[error("told line out of place")]
     OutOfPlace,
     /// A request that isn't known, is known already, was completed before, or is named twice in the line; or

@@ -140,7 +140,7 @@ pub(crate) fn report_forms(word: ReportWord) -> &'static [Form]
     match word {
         ReportWord::Got => &[Form::Peer, Form::Tag],
         ReportWord::Done => &[Form::Request, Form::Peer, Form::Tag],
-        ReportWord::Gone | ReportWord::Kept => &[Form::Request],
+        ReportWord::Gone | ReportWord::Kept | ReportWord::Moved => &[Form::Request],
         ReportWord::Comm | ReportWord::Apart => &[Form::NewComm],
         ReportWord::Idup => &[Form::NewComm, Form::Request],
         ReportWord::Chose | ReportWord::NoComm | ReportWord::Failed => &[],

@@ -3,7 +3,7 @@
 //! Each line is put after the others first and then admitted, so that what is known of earlier lines can name
 //! them by their places. The first fault ends the reading; lines before it are given up with it.
 
-ghost use Rattle.std.specs.Prelude.{◌≡◌, ◌≤◌, ◌<◌, ◌&&◌, [], length, take, drop, ◌-◌, IfOk, IfSome, OnOk, ◌+◌, option_map};
+ghost use Rattle.std.specs.Prelude.{◌≡◌, Ok, ◌≤◌, ◌<◌, ◌&&◌, [], length, take, drop, ◌-◌, IfErr, IfOk, IfSome, OnOk, ◌+◌, option_map};
 ghost use Rattle.std.specs.Option.{option_copied};
 ghost use Rattle.std.specs.Io.KnownBytes.{prepend_known};
 ghost use Rattle.journals.specs.declared.limits.TheConstants.{MOST_LINE_BYTES};
@@ -12,8 +12,9 @@ ghost use Rattle.journals.specs.Headers.{heading};
 ghost use Rattle.journals.specs.Inputs.{text_left};
 ghost use Rattle.journals.specs.inner.Knows.{Knows, owner_of};
 ghost use Rattle.journals.specs.inner.Reader.{IsLine, coming};
+ghost use Rattle.journals.specs.Journal.{unless_moved_wrongly};
 ghost use Rattle.journals.specs.JournalAnswers.{heading_in, FailsFrom, AnswersJournal};
-ghost use Rattle.journals.specs.inner.JournalAnswers.{FindsLine, CutsAt, PassesFound, PassesNext, CountsNext, HeadsJournal, lines_to_come, AnswersComing, TakesText, ReadsNext, fault_as};
+ghost use Rattle.journals.specs.inner.JournalAnswers.{FindsLine, CutsAt, PassesFound, PassesNext, CountsNext, HeadsJournal, lines_to_come, AnswersComing, AnswersLines, TakesText, ReadsNext, IsNoFailedRead, fault_as};
 ghost use Rattle.journals.specs.declared.journal.JournalError.TheVariants as error;
 
 use crate::fault::{JournalFault, JournalFaultKind};
@@ -35,6 +36,9 @@ const NO_HEADER: JournalFault = JournalFault {
     line: 1,
     kind: JournalFaultKind::Header,
 };
+
+/// The most lines that have places.
+const MOST_PLACES: usize = 0xffff_ffff;
 
 /// Whether a first line is that of a journal of the same run as this header.
 fn is_of_run(header: &Header, line: &HeaderLine<'_>) -> bool
@@ -240,6 +244,27 @@ impl JournalReader {
     }
 }
 
+/// The lines that were read, if each receive that they report to be moved may be.
+fn checked(known: &Known, lines: Lines) -> Result<Lines, JournalError>
+    requires { Knows lines known.now }
+    ensures lines { AnswersLines (unless_moved_wrongly (Ok lines)) result }
+    ensures whole { IfErr result IsNoFailedRead }
+{
+    let count = lines.count();
+    if count > MOST_PLACES {
+        return Err(JournalError::Memory);
+    }
+    for place in 0..count {
+        if known.is_moved_wrongly(&lines, place as u32) {
+            return Err(JournalError::Fault(JournalFault {
+                line: place as u64 + 2,
+                kind: JournalFaultKind::OutOfPlace,
+            }));
+        }
+    }
+    Ok(lines)
+}
+
 /// Reads the lines after the header to the text's end.
 fn read_lines<I: Input>(
     mut reading: JournalReader,
@@ -251,8 +276,8 @@ fn read_lines<I: Input>(
     requires number { reading.number ≡ length reading.lines + 2 }
     requires some { 1 ≤ reading.ranks }
     ensures lines { AnswersComing
-        (lines_to_come (owner_of reading.known) reading.lines
-        (coming reading.window (text_left I.left text.old)))
+        (option_map unless_moved_wrongly (lines_to_come (owner_of reading.known) reading.lines
+        (coming reading.window (text_left I.left text.old))))
         result }
     ensures cut { FailsFrom reading.number (prepend_known reading.window (text_left I.left text.old))
         (text_left I.left text.new) result }
@@ -261,8 +286,8 @@ fn read_lines<I: Input>(
         match reading.read_next(text, wait) {
             Ok(true) => {}
             Ok(false) => {
-                let JournalReader { lines, .. } = reading;
-                return Ok(lines);
+                let JournalReader { lines, known, .. } = reading;
+                return checked(&known, lines);
             }
             Err(error) => return Err(error),
         }

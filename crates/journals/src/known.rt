@@ -4,17 +4,19 @@
 //! each communicator its line, and the last call what was reported of it. The tests come in the order of
 //! faults. A line with a fault may leave notes, as nothing is read after it.
 
-ghost use Rattle.std.specs.Prelude.{◌≡◌, ◌≤◌, ◌&&◌, not, ℕ, false, [], IfOk, IfSome, OnOk, IfErr, option_map, length, take, nat_eq};
+ghost use Rattle.std.specs.Prelude.{◌≡◌, ◌≤◌, ◌&&◌, not, ℕ, false, [], IfOk, IfSome, OnOk, IfErr, option_map, length, take, nat_eq, slice_get, List};
 ghost use Rattle.std.specs.HashMap.{get};
 ghost use Rattle.journals.specs.Words.{forms_of};
-ghost use Rattle.journals.specs.Faults.{ends_journal};
+ghost use Rattle.std.specs.Option.{option_map_or};
+ghost use Rattle.journals.specs.Lines.{Line};
+ghost use Rattle.journals.specs.Faults.{ends_journal, ends_with_cut, is_cut, is_moved_wrongly};
 ghost use Rattle.journals.specs.Taking.{fields_at};
 ghost use Rattle.journals.specs.inner.Naturals.{naturals, AreMembers, AreNatural};
 ghost use Rattle.journals.specs.inner.Numbered.{numbered, numbered_from};
 ghost use Rattle.journals.specs.inner.Marks.{ranks_in, members_of};
 ghost use Rattle.journals.specs.inner.Last.{with_report};
 ghost use Rattle.journals.specs.inner.Notes.{note_at, IsFault, undone_at};
-ghost use Rattle.journals.specs.inner.Knows.{IsNext, Knows, Answers, owner_of, held_group, group_by, is_right_group, is_right_call, world_of, may_follow_last, may_be_by, is_unfit, names_unfit_by, chosen_by, is_made_last, is_made_by_last, duplicated_by, is_right_report, is_last, group_fields, brings, brought_in, comms_with, noted_last};
+ghost use Rattle.journals.specs.inner.Knows.{IsLast, IsNext, Knows, Answers, owner_of, held_group, group_by, is_right_group, is_right_call, world_of, may_follow_last, may_be_by, is_unfit, names_completed_by, names_unfit_by, chosen_by, is_made_last, is_made_by_last, duplicated_by, is_right_report, is_last, group_fields, brings, brought_in, comms_with, noted_last};
 ghost use Rattle.journals.specs.Entries.{is_request};
 ghost use Rattle.journals.specs.declared.fault.JournalFaultKind.TheVariants.{OutOfPlace};
 ghost use Rattle.journals.specs.declared.word.Word.TheVariants.{Call, Report};
@@ -50,7 +52,13 @@ pub(crate) struct Known {
 fn ends_journal(word: CallWord) -> bool
     ensures { result ≡ ends_journal (Call word) }
 {
-    matches!(word, CallWord::Finalize | CallWord::Exit)
+    matches!(word, CallWord::Finalize | CallWord::Exit | CallWord::Cut)
+}
+
+fn is_cut(word: CallWord) -> bool
+    ensures { result ≡ is_cut word }
+{
+    matches!(word, CallWord::Cut)
 }
 
 fn is_request(form: Form) -> bool
@@ -77,6 +85,7 @@ fn may_be_of(last: Option<LastCall>, word: ReportWord, note: Note) -> bool
         ReportWord::Chose => is_last(last, Some(note.called)),
         ReportWord::Done => note.awaits_any && !note.has_outcome,
         ReportWord::Gone | ReportWord::Kept => note.is_cancelled && !note.has_outcome,
+        ReportWord::Moved => note.is_receive && !note.has_outcome,
         ReportWord::Idup => {
             note.parent.is_some() && is_last(last, note.completed) && !note.is_brought
         }
@@ -139,6 +148,41 @@ impl Known {
             last: None,
             is_over: false,
         })
+    }
+
+    fn ends_with_cut(&self) -> bool
+        ensures { (ranks : ℕ) (lines : List Line) → IsLast ranks lines self.now.last → result ≡ ends_with_cut lines }
+    {
+        match self.last {
+            Some(last) => is_cut(last.word),
+            None => false,
+        }
+    }
+
+    /// Whether the request that a report names first is completed.
+    fn names_completed(&self, fields: &[Field]) -> bool
+        ensures { result ≡ names_completed_by (note_at self.now.notes) fields.now }
+    {
+        match fields {
+            [Field::Natural(request), ..] => match self.notes.get(*request) {
+                Some(note) => note.completed.is_some(),
+                None => false,
+            },
+            _ => false,
+        }
+    }
+
+    /// Whether a line reports a receive to be moved which is completed, or whose journal doesn't end with a cut.
+    pub(crate) fn is_moved_wrongly(&self, lines: &Lines, line: u32) -> bool
+        requires { Knows lines.now self.now }
+        ensures { result ≡ option_map_or (is_moved_wrongly lines.now) (slice_get lines.now line) false }
+    {
+        match lines.word(line) {
+            Some(Word::Report(ReportWord::Moved)) => {
+                !self.ends_with_cut() || self.names_completed(lines.fields(line))
+            }
+            _ => false,
+        }
     }
 
     /// Takes the next line of the journal, or answers its fault.

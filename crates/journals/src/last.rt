@@ -83,7 +83,12 @@ fn may_fail(word: CallWord) -> bool
 {
     !matches!(
         word,
-        CallWord::Finalize | CallWord::Abort | CallWord::Exit | CallWord::Full | CallWord::Stopped
+        CallWord::Finalize
+            | CallWord::Abort
+            | CallWord::Exit
+            | CallWord::Full
+            | CallWord::Stopped
+            | CallWord::Cut
     )
 }
 
@@ -114,7 +119,11 @@ impl LastCall {
             ReportWord::NoComm => makes_comm(self.word) && !self.has_brought,
             ReportWord::Idup => completes_requests(self.word),
             ReportWord::Failed => may_fail(self.word) && !self.has_failed,
-            ReportWord::Done | ReportWord::Gone | ReportWord::Kept | ReportWord::Apart => true,
+            ReportWord::Done
+            | ReportWord::Gone
+            | ReportWord::Kept
+            | ReportWord::Moved
+            | ReportWord::Apart => true,
         }
     }
 
@@ -155,6 +164,10 @@ pub(crate) fn may_be_anywhere(word: ReportWord) -> bool
 {
     matches!(
         word,
-        ReportWord::Done | ReportWord::Gone | ReportWord::Kept | ReportWord::Apart
+        ReportWord::Done
+            | ReportWord::Gone
+            | ReportWord::Kept
+            | ReportWord::Moved
+            | ReportWord::Apart
     )
 }

@@ -16,11 +16,12 @@ use crate::word::{CallWord, ReportWord};
 #[derive(Clone, Copy)]
 pub(crate) struct Note {
     pub is_message: bool,
-    /// It is that of a receive with a wildcard.
+    /// It is that of a receive, and of one with a wildcard.
+    pub is_receive: bool,
     pub awaits_any: bool,
     /// A cancel names it.
     pub is_cancelled: bool,
-    /// Its message, or what came of its cancel, was reported.
+    /// Its message, what came of its cancel, or that it is moved was reported.
     pub has_outcome: bool,
     /// The communicator that its nonblocking duplicate made was reported.
     pub is_brought: bool,
@@ -45,38 +46,57 @@ fn has_wildcard(source: Field, tag: Field) -> bool
     }
 }
 
+/// The source and the tag of the receive that the fields of a start say, if it has this request.
 #[inline(always)]
-fn is_received(fields: &[Field], number: u32) -> bool
-    ensures { result ≡ is_wildcard (receive_in number (Call CallWord.Irecv) fields.now) }
+fn received_in(fields: &[Field], number: u32) -> Option<(Field, Field)>
+    ensures { result ≡ receive_in number (Call CallWord.Irecv) fields.now }
 {
     match fields {
         [Field::Natural(request), _, source, tag] => {
-            *request == number && has_wildcard(*source, *tag)
+            if *request == number {
+                Some((*source, *tag))
+            } else {
+                None
+            }
         }
-        _ => false,
+        _ => None,
     }
 }
 
-fn is_exchanged(fields: &[Field], number: u32) -> bool
-    ensures { result ≡ is_wildcard (receive_in number (Call CallWord.Isendrecv) fields.now) }
+/// The same of the start of an exchange.
+fn exchanged_in(fields: &[Field], number: u32) -> Option<(Field, Field)>
+    ensures { result ≡ receive_in number (Call CallWord.Isendrecv) fields.now }
 {
     match fields {
         [_, Field::Natural(request), _, _, _, source, tag, ..] => {
-            *request == number && has_wildcard(*source, *tag)
+            if *request == number {
+                Some((*source, *tag))
+            } else {
+                None
+            }
         }
-        _ => false,
+        _ => None,
     }
 }
 
-/// Whether the request that a call line numbers is that of a receive with a wildcard.
+/// The source and the tag of the receive that a call line starts with this request.
 #[inline(always)]
-fn awaits_any(word: CallWord, fields: &[Field], number: u32) -> bool
-    ensures { result ≡ is_wildcard (receive_in number (Call word) fields.now) }
+fn receive_in(word: CallWord, fields: &[Field], number: u32) -> Option<(Field, Field)>
+    ensures { result ≡ receive_in number (Call word) fields.now }
 {
     match word {
-        CallWord::Irecv => is_received(fields, number),
-        CallWord::Isendrecv => is_exchanged(fields, number),
-        _ => false,
+        CallWord::Irecv => received_in(fields, number),
+        CallWord::Isendrecv => exchanged_in(fields, number),
+        _ => None,
+    }
+}
+
+fn is_wildcard(message: Option<(Field, Field)>) -> bool
+    ensures { result ≡ is_wildcard message }
+{
+    match message {
+        Some((source, tag)) => has_wildcard(source, tag),
+        None => false,
     }
 }
 
@@ -112,9 +132,11 @@ impl Note {
     pub(crate) fn of_request(word: CallWord, fields: &[Field], line: u32, number: u32) -> Note
         ensures { result ≡ request_note word fields.now line number }
     {
+        let receive = receive_in(word, fields, number);
         Note {
             is_message: false,
-            awaits_any: awaits_any(word, fields, number),
+            is_receive: receive.is_some(),
+            awaits_any: is_wildcard(receive),
             is_cancelled: false,
             has_outcome: false,
             is_brought: false,
@@ -131,6 +153,7 @@ impl Note {
     {
         Note {
             is_message: true,
+            is_receive: false,
             awaits_any: false,
             is_cancelled: false,
             has_outcome: false,
@@ -184,7 +207,10 @@ impl Note {
     pub(crate) fn when_reported(self, word: ReportWord, line: u32, completed: Option<u32>) -> Note
         ensures { result ≡ reported_note word line completed self }
     {
-        let is_outcome = matches!(word, ReportWord::Done | ReportWord::Gone | ReportWord::Kept);
+        let is_outcome = matches!(
+            word,
+            ReportWord::Done | ReportWord::Gone | ReportWord::Kept | ReportWord::Moved
+        );
         Note {
             reported: Some(line),
             has_outcome: self.has_outcome || is_outcome,

@@ -19,6 +19,8 @@ pub enum CallWord {
     Full,
     /// What the rank does from here on isn't known.
     Stopped,
+    /// The journal ends here, where nothing is under way; the rank goes on in another.
+    Cut,
     Send,
     Ssend,
     Bsend,
@@ -85,6 +87,8 @@ pub enum ReportWord {
     Gone,
     /// The request that a cancel named completed all the same.
     Kept,
+    /// The receive of the request goes on in the journal after this one.
+    Moved,
     /// The communicator that the call made, with its group.
     Comm,
     /// That which the nonblocking duplicate made that started the request.
@@ -105,7 +109,7 @@ pub enum Word {
 }
 
 /// The texts of the call words, those that come often first.
-const CALLS: [(&str, CallWord); 56] = [
+const CALLS: [(&str, CallWord); 57] = [
     ("isend", CallWord::Isend),
     ("irecv", CallWord::Irecv),
     ("wait", CallWord::Wait),
@@ -162,10 +166,11 @@ const CALLS: [(&str, CallWord); 56] = [
     ("exit", CallWord::Exit),
     ("full", CallWord::Full),
     ("stopped", CallWord::Stopped),
+    ("cut", CallWord::Cut),
 ];
 
 /// The texts of the report words.
-const REPORTS: [(&str, ReportWord); 10] = [
+const REPORTS: [(&str, ReportWord); 11] = [
     ("=got", ReportWord::Got),
     ("=chose", ReportWord::Chose),
     ("=done", ReportWord::Done),
@@ -176,6 +181,7 @@ const REPORTS: [(&str, ReportWord); 10] = [
     ("=none", ReportWord::NoComm),
     ("=apart", ReportWord::Apart),
     ("=failed", ReportWord::Failed),
+    ("=moved", ReportWord::Moved),
 ];
 
 /// Whether two texts are the same. Words are short, so they are compared byte by byte.

@@ -70,6 +70,11 @@ HeadsJournal first said (Err (error.Fault fault)) =
 HeadsJournal first said (Err (error.ReadFailed line)) = ⊥
 HeadsJournal first said (Err error.Memory) = ⊤
 
+-- no read failed
+abbrev pub IsNoFailedRead : JournalError → Type 0
+IsNoFailedRead (error.ReadFailed line) = ⊥
+IsNoFailedRead failed = ⊤
+
 -- the lines after some that were read are these, or their first fault is this
 abbrev pub AnswersLines : Result (List Line) Fault → Result (List Line) JournalError → Type 0
 AnswersLines said (Ok lines) = said ≡ Ok lines

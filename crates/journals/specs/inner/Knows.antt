@@ -8,7 +8,7 @@ use Rattle.std.specs.declared.hash.BuildHasherDefault.{BuildHasherDefault}
 use Rattle.journals.specs.Words.{forms_of}
 use Rattle.journals.specs.Lines.{Line, fields_of}
 use Rattle.journals.specs.Entries.{Entry, call_of, entries_of, last_entry, numbers_by, is_of_request, is_request, is_comm, is_new_comm}
-use Rattle.journals.specs.Known.{is_among, are_distinct, knows_request, knows_message, awaits_any, is_cancelled, has_outcome, is_brought, parent_of, has_report, completed_by, reported_group}
+use Rattle.journals.specs.Known.{is_among, are_distinct, knows_request, knows_message, is_of_receive, awaits_any, is_cancelled, has_outcome, is_brought, parent_of, has_report, completed_by, reported_group}
 use Rattle.journals.specs.Faults.{Owner, is_after_end, brought_or_not, completed_last, fault_of_line, is_within, may_be_anywhere}
 use Rattle.journals.specs.Taking.{fields_at}
 use Rattle.journals.specs.inner.Naturals.{naturals}
@@ -104,6 +104,7 @@ NoteBelow count (Some note) =
 pub record NoteIs (lines : List Line) (last : Option LastCall) (number : ℕ) (note : Option Note) : Type 0 where
   pub request : knows_request lines number ≡ by_note (λ it. not it.is_message) note
   pub message : knows_message lines number ≡ by_note (λ it. it.is_message) note
+  pub receive : is_of_receive lines number ≡ by_note (λ it. it.is_receive) note
   pub awaits : awaits_any lines number ≡ by_note (λ it. it.awaits_any) note
   pub cancelled : is_cancelled lines number ≡ by_note (λ it. it.is_cancelled) note
   pub outcome : has_outcome lines number ≡ by_note (λ it. it.has_outcome) note
@@ -211,6 +212,7 @@ may_be_by last report.Chose note = is_last last (Some note.called)
 may_be_by last report.Done note = note.awaits_any && not note.has_outcome
 may_be_by last report.Gone note = note.is_cancelled && not note.has_outcome
 may_be_by last report.Kept note = note.is_cancelled && not note.has_outcome
+may_be_by last report.Moved note = note.is_receive && not note.has_outcome
 may_be_by last report.Idup note = is_some note.parent && is_last last note.completed && not note.is_brought
 may_be_by last _ note = true
 
@@ -223,6 +225,11 @@ abbrev pub names_unfit_by : (Option Note → Bool) → (ℕ → Option Note) →
 names_unfit_by unfit notes [] = false
 names_unfit_by unfit notes (item ∷ items) =
     (is_request item.0 && unfit (notes item.1)) || names_unfit_by unfit notes items
+
+-- the first request that a report names is completed
+abbrev pub names_completed_by : (ℕ → Option Note) → List Field → Bool
+names_completed_by notes (Natural number ∷ fields) = by_note (λ it. is_some it.completed) (notes number)
+names_completed_by notes _ = false
 
 -- the call line that completed the requests of a report by this report
 abbrev pub chosen_by : Option LastCall → ReportWord → Option ℕ

@@ -1,5 +1,5 @@
 -- What is noted of requests and messages, and how the fields of a line change it.
-use Rattle.std.specs.Prelude.{◌≡◌, ℕ, Bool, true, false, ◌&&◌, ◌||◌, not, ◌==◌, nat_eq, Option, Some, None, is_none, option_map, ⊤, if◌then◌else◌, List, [], ◌∷◌, slice_get}
+use Rattle.std.specs.Prelude.{◌≡◌, ℕ, Bool, true, false, ◌&&◌, ◌||◌, not, ◌==◌, nat_eq, Option, Some, None, is_none, is_some, option_map, ⊤, if◌then◌else◌, List, [], ◌∷◌, slice_get}
 use Rattle.std.specs.HashMap.{get}
 use Rattle.journals.specs.Entries.{is_of_request}
 use Rattle.journals.specs.Known.{is_cancel, is_outcome, is_report, receive_in, is_wildcard, duplicated_in}
@@ -49,6 +49,7 @@ noted by number note (item ∷ items) =
 abbrev pub request_note : CallWord → List Field → ℕ → ℕ → Note
 request_note word fields line number = record {
   is_message = false;
+  is_receive = is_some (receive_in number (Call word) fields);
   awaits_any = is_wildcard (receive_in number (Call word) fields);
   is_cancelled = false;
   has_outcome = false;
@@ -62,6 +63,7 @@ request_note word fields line number = record {
 abbrev pub message_note : ℕ → Note
 message_note line = record {
   is_message = true;
+  is_receive = false;
   awaits_any = false;
   is_cancelled = false;
   has_outcome = false;

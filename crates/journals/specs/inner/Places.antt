@@ -20,6 +20,7 @@ call_comm_place call.Abort = None
 call_comm_place call.Exit = None
 call_comm_place call.Full = None
 call_comm_place call.Stopped = None
+call_comm_place call.Cut = None
 call_comm_place call.Mrecv = None
 call_comm_place call.Imrecv = None
 call_comm_place call.Wait = None

@@ -6,7 +6,7 @@ use Rattle.journals.specs.inner.Knows.{owner_of}
 use Rattle.journals.specs.inner.Reader.{coming}
 use Rattle.journals.specs.inner.JournalAnswers.{lines_to_come, GoesOn, AnswersComing}
 use Rattle.journals.specs.Faults.{Owner}
-use Rattle.journals.proofs.JournalLemmas.{goes_same, goes_further, answers_back}
+use Rattle.journals.proofs.JournalLemmas.{goes_same, goes_further, checked_last, checked_failed, checked_cut}
 use Rattle.journals.proofs.PassLemmas.{passes_none, passes_both, cut_within}
 use Rattle.journals.proofs.journal.read_lines.Goals as goal
 
@@ -45,10 +45,14 @@ pub returns-in-Ok-false-clause-lines : goal.returns-in-Ok-false-clause-lines
 returns-in-Ok-false-clause-lines g c =
     let read = rw c.in-Ok-false.field-0-test at c.in-Ok-false.ensures.lines in
     let answered : AnswersComing (lines_to_come (owner_of c.loop.reading.known) c.loop.reading.lines (coming c.loop.reading.window (text_left g.I.Input.left c.loop.text))) (Ok c.read_next.new.self.lines) = read in
-    answers_back _ _ (Ok c.read_next.new.self.lines) c.loop.invariant.on answered
+    checked_last _ _ c.read_next.new.self.lines _ c.loop.invariant.on answered c.checked.ensures.lines
+
+pub returns-in-Ok-false-clause-cut : goal.returns-in-Ok-false-clause-cut
+returns-in-Ok-false-clause-cut g c =
+    checked_cut c.args.reading.number _ _ c.checked.result c.checked.ensures.whole
 
 pub returns-in-Err-clause-lines : goal.returns-in-Err-clause-lines
-returns-in-Err-clause-lines g c = answers_back _ _ _ c.loop.invariant.on c.in-Err.ensures.lines
+returns-in-Err-clause-lines g c = checked_failed _ _ c.in-Err.error c.loop.invariant.on c.in-Err.ensures.lines
 
 pub returns-in-Err-clause-cut : goal.returns-in-Err-clause-cut
 returns-in-Err-clause-cut g c =
