@@ -19,6 +19,7 @@ says_chose (Call word) e = refl
 says_chose (Report report.Done) e = cc
 says_chose (Report report.Gone) e = cc
 says_chose (Report report.Kept) e = cc
+says_chose (Report report.Moved) e = cc
 says_chose (Report report.Apart) e = cc
 says_chose (Report word) e = refl
 

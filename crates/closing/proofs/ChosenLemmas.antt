@@ -11,14 +11,14 @@ use Rattle.journals.specs.Lines.{Line}
 use Rattle.journals.specs.declared.field.Field.{Field}
 use Rattle.journals.specs.declared.field.Field.TheVariants as field
 use Rattle.journals.specs.declared.word.ReportWord.TheVariants as report
-use Rattle.closing.specs.Called.{Called, Awaited, Sends, StartsSend, Receives, StartsReceive, Exchanges, StartsExchange, Probes, ProbesMatching, ReceivesMatched, StartsMatched, Waits, Tests, WaitsAny, WaitsSome, Cancels, FreesRequest, Collects, StartsCollective, Duplicates, StartsDuplicate, Splits, Makes, MakesOfGroup, FreesComm, Nothing, Finalizes, Exits, Aborts, Fills, Stops}
+use Rattle.closing.specs.Called.{Called, Awaited, Sends, StartsSend, Receives, StartsReceive, Exchanges, StartsExchange, Probes, ProbesMatching, ReceivesMatched, StartsMatched, Waits, Tests, WaitsAny, WaitsSome, Cancels, FreesRequest, Collects, StartsCollective, Duplicates, StartsDuplicate, Splits, Makes, MakesOfGroup, FreesComm, Nothing, Finalizes, Exits, Aborts, Fills, Stops, Cuts}
 use Rattle.closing.specs.Endings.{awaited_at, awaited_can_be, first_of, message_at, number_at, sent_can_be, size_at}
 use Rattle.closing.specs.Entries.{Run, Placed}
 use Rattle.closing.specs.Entry.{Choice}
 use Rattle.closing.specs.Pending.{unknown}
 use Rattle.closing.specs.RankComms.{RankComms}
 use Rattle.closing.specs.Recording.{Listed, ended, outcome_of}
-use Rattle.closing.specs.Reported.{Message, done_of, got_in, is_gone, is_settled, message_from, message_of, root_can_be}
+use Rattle.closing.specs.Reported.{Message, done_of, got_in, is_gone, is_settled, message_from, message_of, root_can_be, unless_moved}
 use Rattle.closing.specs.Sinks.{Outcome, GoesOn, Ends, by_call, is_met, is_nobody, is_sound, outcome_by_sinks, request_received, takes_by, takes_nothing, unsure, wanted_at, wanted_by}
 use Rattle.closing.specs.Steps.{Progress, Step, Written, after_steps}
 use Rattle.closing.specs.inner.Taken.{chooses_none, pending_at, pending_if, pending_kept, sinks_stand}
@@ -26,7 +26,7 @@ use Rattle.closing.specs.inner.Walks.{Spot, chosen_or_ends, ends, known_or_ends,
 use Rattle.closing.specs.declared.choice.Unreported.{Unreported}
 use Rattle.closing.specs.declared.choice.Unreported.TheVariants as unreported
 use Rattle.closing.specs.declared.why.Why.{Why}
-use Rattle.closing.specs.declared.why.Why.TheVariants.{NeverCameBack, NeverReported, Failed, NoNumber, TooLong, CannotBe, Stopped, Aborted, Full, NoJournal, NotJudged}
+use Rattle.closing.specs.declared.why.Why.TheVariants.{NeverCameBack, NeverReported, Failed, NoNumber, TooLong, CannotBe, Stopped, Aborted, Full, Cut, NoJournal, NotJudged}
 use Rattle.closing.proofs.OutcomeOfEntry.{goes_on_past, taken_is}
 
 -- ---- One that chose none ----
@@ -72,6 +72,7 @@ chooses_on run choice placed Exits h = absurd (cc (h))
 chooses_on run choice placed Aborts h = absurd (cc (h))
 chooses_on run choice placed Fills h = absurd (cc (h))
 chooses_on run choice placed Stops h = absurd (cc (h))
+chooses_on run choice placed Cuts h = absurd (cc (h))
 
 -- it ends the list
 pub chooses_is : (run : Run) (choice : Choice) (placed : Placed) → goes_on_past placed.called ≡ true → has_report report.Failed placed.entry ≡ false
@@ -179,13 +180,13 @@ module _ (run : Run) (choice : Choice) (records : List Written) where
         absurd (sunk (at (Receives awaited)) by.comm awaited (got_in entry) (sound_by (awaited_can_be (size_at run (at (Receives awaited))) (awaited, got_in entry)) (has_report report.Failed entry) (number_at run (at (Receives awaited))) by.comm failed by.able_is by.number_is)
         by.number_is refl (known_none (message_of awaited (got_in entry)) _ steps end by.is) refl refl none)
     unknown_by (StartsReceive request awaited) steps end failed e none =
-        let by = numbered_of (awaited_can_be (size_at run (at (StartsReceive request awaited))) (awaited, done_of journal.lines request)) (number_at run (at (StartsReceive request awaited))) _ steps end e in absurd (after_not _ (spot (StartsReceive request awaited)) by.comm request _ steps end by.is)
+        let by = numbered_of (awaited_can_be (size_at run (at (StartsReceive request awaited))) (unless_moved journal.lines request awaited, done_of journal.lines request)) (number_at run (at (StartsReceive request awaited))) _ steps end e in absurd (after_not _ (spot (StartsReceive request awaited)) by.comm request _ steps end by.is)
     unknown_by (Exchanges sent awaited) steps end failed e none =
         let by = numbered_of (sent_can_be (size_at run (at (Exchanges sent awaited))) sent && awaited_can_be (size_at run (at (Exchanges sent awaited))) (awaited, got_in entry)) (number_at run (at (Exchanges sent awaited))) _ steps end e in
         absurd (sunk (at (Exchanges sent awaited)) by.comm awaited (got_in entry) (sound_by (sent_can_be (size_at run (at (Exchanges sent awaited))) sent && awaited_can_be (size_at run (at (Exchanges sent awaited))) (awaited, got_in entry)) (has_report report.Failed entry) (number_at run (at (Exchanges sent awaited))) by.comm failed by.able_is by.number_is)
         by.number_is refl (known_none (message_of awaited (got_in entry)) _ steps end by.is) refl refl none)
     unknown_by (StartsExchange request received sent awaited) steps end failed e none =
-        let by = numbered_of (sent_can_be (size_at run (at (StartsExchange request received sent awaited))) sent && awaited_can_be (size_at run (at (StartsExchange request received sent awaited))) (awaited, done_of journal.lines received)) (number_at run (at (StartsExchange request received sent awaited))) _ steps end e in absurd (after_not _ (spot (StartsExchange request received sent awaited)) by.comm received _ steps end by.is)
+        let by = numbered_of (sent_can_be (size_at run (at (StartsExchange request received sent awaited))) sent && awaited_can_be (size_at run (at (StartsExchange request received sent awaited))) (unless_moved journal.lines received awaited, done_of journal.lines received)) (number_at run (at (StartsExchange request received sent awaited))) _ steps end e in absurd (after_not _ (spot (StartsExchange request received sent awaited)) by.comm received _ steps end by.is)
     unknown_by (Probes awaited) steps end failed e none =
         let by = numbered_of (awaited_can_be (size_at run (at (Probes awaited))) (awaited, got_in entry)) (number_at run (at (Probes awaited))) _ steps end e in
         absurd (sunk (at (Probes awaited)) by.comm awaited (got_in entry) (sound_by (awaited_can_be (size_at run (at (Probes awaited))) (awaited, got_in entry)) (has_report report.Failed entry) (number_at run (at (Probes awaited))) by.comm failed by.able_is by.number_is)
@@ -227,6 +228,7 @@ module _ (run : Run) (choice : Choice) (records : List Written) where
     unknown_by Aborts steps end failed e none = absurd (cc (e))
     unknown_by Fills steps end failed e none = absurd (cc (e))
     unknown_by Stops steps end failed e none = absurd (cc (e))
+    unknown_by Cuts steps end failed e none = absurd (cc (e))
 
   -- so a call that ends the list as it never came back chose none, if it isn't taken by the sinks before it
   pub unknown_chooses : (placed : Placed) (steps : List Step) (end : Call) → goes_on_past placed.called ≡ true → has_report report.Failed placed.entry ≡ false
@@ -267,6 +269,7 @@ pending_ends run choice progress placed steps end why past failed none e = by_ch
     no_pending Stopped h = refl
     no_pending Aborted h = refl
     no_pending Full h = refl
+    no_pending Cut h = refl
     no_pending NoJournal h = refl
     no_pending NotJudged h = refl
 

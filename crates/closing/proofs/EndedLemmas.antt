@@ -25,7 +25,7 @@ use Rattle.closing.specs.declared.choice.Unreported.{Unreported}
 use Rattle.closing.specs.declared.choice.Unreported.TheVariants as unreported
 use Rattle.closing.specs.declared.walk.Walk.{Walk}
 use Rattle.closing.specs.declared.why.Why.{Why}
-use Rattle.closing.specs.declared.why.Why.TheVariants.{NeverCameBack, NeverReported, Failed, NoNumber, TooLong, CannotBe, Stopped, Aborted, Full, NoJournal, NotJudged}
+use Rattle.closing.specs.declared.why.Why.TheVariants.{NeverCameBack, NeverReported, Failed, NoNumber, TooLong, CannotBe, Stopped, Aborted, Full, Cut, NoJournal, NotJudged}
 use Rattle.closing.proofs.ListLemmas.{AllOfLine}
 use Rattle.closing.proofs.UnsunkLemmas.{AllUnsunk, IsUnsunk}
 
@@ -143,6 +143,7 @@ not_pending list why placed e other = by_why list.why (λ is. other (sym e ∙ i
     by_why (Some Stopped) h = refl
     by_why (Some Aborted) h = refl
     by_why (Some Full) h = refl
+    by_why (Some Cut) h = refl
     by_why (Some NoJournal) h = refl
     by_why (Some NotJudged) h = refl
 
@@ -213,6 +214,7 @@ past_pending run list (placed ∷ []) from = ap (λ (b : Bool). if b then pendin
     by_why (Some Stopped) = refl
     by_why (Some Aborted) = refl
     by_why (Some Full) = refl
+    by_why (Some Cut) = refl
     by_why (Some NoJournal) = refl
     by_why (Some NotJudged) = refl
 past_pending run list (placed ∷ next ∷ others) from = past_pending run list (next ∷ others) from.1
@@ -251,6 +253,7 @@ at_entry run placed [] list why at is from back = by_why why is
     never (Some Stopped) e = absurd (cc (e))
     never (Some Aborted) e = absurd (cc (e))
     never (Some Full) e = absurd (cc (e))
+    never (Some Cut) e = absurd (cc (e))
     never (Some NoJournal) e = absurd (cc (e))
     never (Some NotJudged) e = absurd (cc (e))
 
@@ -265,6 +268,7 @@ at_entry run placed [] list why at is from back = by_why why is
     by_why Stopped e = none Stopped e (λ same. cc (same))
     by_why Aborted e = none Aborted e (λ same. cc (same))
     by_why Full e = none Full e (λ same. cc (same))
+    by_why Cut e = none Cut e (λ same. cc (same))
     by_why NoJournal e = none NoJournal e (λ same. cc (same))
     by_why NotJudged e = none NotJudged e (λ same. cc (same))
 at_entry run placed (next ∷ more) list why at is from back =
@@ -281,6 +285,7 @@ at_entry run placed (next ∷ more) list why at is from back =
     back_none Stopped = refl
     back_none Aborted = refl
     back_none Full = refl
+    back_none Cut = refl
     back_none NoJournal = refl
     back_none NotJudged = refl
 

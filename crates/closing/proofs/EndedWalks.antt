@@ -20,7 +20,7 @@ use Rattle.closing.specs.inner.Taken.{CutKept, EndsKept, IsKept, IsKnown, StopsK
 use Rattle.closing.specs.declared.stop.Stop.TheVariants.{Left}
 use Rattle.closing.specs.declared.walk.Walk.{Walk}
 use Rattle.closing.specs.declared.why.Why.{Why}
-use Rattle.closing.specs.declared.why.Why.TheVariants.{NeverCameBack, NeverReported, Failed, NoNumber, TooLong, CannotBe, Stopped, Aborted, Full, NoJournal, NotJudged}
+use Rattle.closing.specs.declared.why.Why.TheVariants.{NeverCameBack, NeverReported, Failed, NoNumber, TooLong, CannotBe, Stopped, Aborted, Full, Cut, NoJournal, NotJudged}
 use Rattle.closing.proofs.EndedLemmas.{known_ends, known_long, known_of, known_open, pending_here, taken_of_line}
 use Rattle.closing.proofs.EnteredLemmas.{end_is, entered_left, left_is, long_is}
 use Rattle.closing.proofs.LineLemmas.{steps_by}
@@ -132,5 +132,6 @@ module _ (run : Run) (choice : Choice) (journal : Journal) (table : Table) (old 
     broken_known Stopped entered kept = left_known Stopped (λ long. cc (long)) entered kept
     broken_known Aborted entered kept = left_known Aborted (λ long. cc (long)) entered kept
     broken_known Full entered kept = left_known Full (λ long. cc (long)) entered kept
+    broken_known Cut entered kept = left_known Cut (λ long. cc (long)) entered kept
     broken_known NoJournal entered kept = left_known NoJournal (λ long. cc (long)) entered kept
     broken_known NotJudged entered kept = left_known NotJudged (λ long. cc (long)) entered kept

@@ -15,7 +15,7 @@ use Rattle.closing.specs.inner.Walked.{EndsAt}
 use Rattle.closing.specs.declared.list.List.{List as ListCode}
 use Rattle.closing.specs.declared.stop.Stop.TheVariants.{Left}
 use Rattle.closing.specs.declared.why.Why.{Why}
-use Rattle.closing.specs.declared.why.Why.TheVariants.{NeverCameBack, NeverReported, Failed, NoNumber, TooLong, CannotBe, Stopped, Aborted, Full, NoJournal, NotJudged}
+use Rattle.closing.specs.declared.why.Why.TheVariants.{NeverCameBack, NeverReported, Failed, NoNumber, TooLong, CannotBe, Stopped, Aborted, Full, Cut, NoJournal, NotJudged}
 use Rattle.closing.proofs.LineLemmas.{IsEnded, calls_cut, calls_ended, of_line}
 use Rattle.closing.proofs.PartLemmas.{cut_short}
 use Rattle.closing.proofs.SinkOutcomes.{ends_open}
@@ -123,6 +123,7 @@ module _ (run : Run) (choice : Choice) (placed : Placed) (others : List Placed) 
   on_left steps Stopped e list count is = absurd is
   on_left steps Aborted e list count is = absurd is
   on_left steps Full e list count is = absurd is
+  on_left steps Cut e list count is = absurd is
   on_left steps NotJudged e list count is = absurd is
   on_left steps NoJournal e list count is = absurd is
 
@@ -139,6 +140,7 @@ module _ (run : Run) (choice : Choice) (placed : Placed) (others : List Placed) 
   at_left steps end found Stopped e list count is = left_stands steps end found Stopped e list count is
   at_left steps end found Aborted e list count is = left_stands steps end found Aborted e list count is
   at_left steps end found Full e list count is = left_stands steps end found Full e list count is
+  at_left steps end found Cut e list count is = left_stands steps end found Cut e list count is
   at_left steps end found NotJudged e list count is = left_stands steps end found NotJudged e list count is
   at_left steps end found NoJournal e list count is = left_stands steps end found NoJournal e list count is
 
@@ -194,6 +196,7 @@ module _ (run : Run) (choice : Choice) (placed : Placed) (others : List Placed) 
   none_comes steps Stopped short is = is
   none_comes steps Aborted short is = is
   none_comes steps Full short is = is
+  none_comes steps Cut short is = is
   none_comes steps NoJournal short is = is
   none_comes steps NotJudged short is = is
 
@@ -208,6 +211,7 @@ module _ (run : Run) (choice : Choice) (placed : Placed) (others : List Placed) 
   both_at steps found Stopped short is = is
   both_at steps found Aborted short is = is
   both_at steps found Full short is = is
+  both_at steps found Cut short is = is
   both_at steps found NoJournal short is = is
   both_at steps found NotJudged short is = is
 

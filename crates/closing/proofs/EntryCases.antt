@@ -2,8 +2,8 @@
 use Rattle.std.proofs.Common.{◌≡◌, refl, sym, ap, subst, ℕ, Bool, true, false, List, Option, Some, None, Ok, Err}
 use Rattle.journals.specs.Known.{has_report}
 use Rattle.journals.specs.declared.word.ReportWord.TheVariants as report
-use Rattle.closing.specs.Called.{Called, Sends, StartsSend, Receives, StartsReceive, Exchanges, StartsExchange, Probes, ProbesMatching, ReceivesMatched, StartsMatched, Waits, Tests, WaitsAny, WaitsSome, Cancels, FreesRequest, Collects, StartsCollective, Duplicates, StartsDuplicate, Splits, Makes, MakesOfGroup, FreesComm, Nothing, Finalizes, Exits, Aborts, Fills, Stops}
-use Rattle.closing.specs.Entries.{Run, Placed}
+use Rattle.closing.specs.Called.{Called, Sends, StartsSend, Receives, StartsReceive, Exchanges, StartsExchange, Probes, ProbesMatching, ReceivesMatched, StartsMatched, Waits, Tests, WaitsAny, WaitsSome, Cancels, FreesRequest, Collects, StartsCollective, Duplicates, StartsDuplicate, Splits, Makes, MakesOfGroup, FreesComm, Nothing, Finalizes, Exits, Aborts, Fills, Stops, Cuts}
+use Rattle.closing.specs.Entries.{Run, Placed, is_window}
 use Rattle.closing.specs.Endings.{breaks_off}
 use Rattle.closing.specs.Entry.{Choice}
 use Rattle.closing.specs.Steps.{Id, Progress, WaitsForAll, WaitsForLate, after_step, after_steps}
@@ -17,7 +17,7 @@ use Rattle.closing.specs.declared.list.List.{List as ListCode}
 use Rattle.closing.specs.declared.stop.Stop.{Stop}
 use Rattle.closing.specs.declared.stop.Stop.TheVariants.{Left, Memory}
 use Rattle.closing.specs.declared.why.Why.{Why}
-use Rattle.closing.specs.declared.why.Why.TheVariants.{NeverCameBack, NeverReported, Failed, NoNumber, TooLong, CannotBe, Stopped, Aborted, Full, NoJournal, NotJudged}
+use Rattle.closing.specs.declared.why.Why.TheVariants.{NeverCameBack, NeverReported, Failed, NoNumber, TooLong, CannotBe, Stopped, Aborted, Full, Cut, NoJournal, NotJudged}
 use Rattle.closing.proofs.GrownLemmas.{same_records}
 use Rattle.closing.proofs.OutcomeOfEntry.{broken_is, ended_is, failed_is, goes_on_past}
 use Rattle.closing.proofs.StepsLemmas.{ends_cut, still_cut}
@@ -29,39 +29,42 @@ abbrev pub IsBroken : Why → Type 0
 IsBroken Stopped = Unit {0}
 IsBroken Aborted = Unit {0}
 IsBroken Full = Unit {0}
+IsBroken Cut = Unit {0}
 IsBroken why = ⊥
 
-pub broken_why : (it : Called) (why : Why) → breaks_off it ≡ Some why → IsBroken why
-broken_why (Sends mode sent) why e = absurd (cc (e))
-broken_why (StartsSend request mode sent) why e = absurd (cc (e))
-broken_why (Receives awaited) why e = absurd (cc (e))
-broken_why (StartsReceive request awaited) why e = absurd (cc (e))
-broken_why (Exchanges sent awaited) why e = absurd (cc (e))
-broken_why (StartsExchange request received sent awaited) why e = absurd (cc (e))
-broken_why (Probes awaited) why e = absurd (cc (e))
-broken_why (ProbesMatching message awaited) why e = absurd (cc (e))
-broken_why (ReceivesMatched message) why e = absurd (cc (e))
-broken_why (StartsMatched request message) why e = absurd (cc (e))
-broken_why (Waits requests) why e = absurd (cc (e))
-broken_why (Tests requests) why e = absurd (cc (e))
-broken_why (WaitsAny requests) why e = absurd (cc (e))
-broken_why (WaitsSome requests) why e = absurd (cc (e))
-broken_why (Cancels request) why e = absurd (cc (e))
-broken_why (FreesRequest request) why e = absurd (cc (e))
-broken_why (Collects collective comm root) why e = absurd (cc (e))
-broken_why (StartsCollective request collective comm root) why e = absurd (cc (e))
-broken_why (Duplicates comm) why e = absurd (cc (e))
-broken_why (StartsDuplicate request comm) why e = absurd (cc (e))
-broken_why (Splits comm colour key) why e = absurd (cc (e))
-broken_why (Makes comm) why e = absurd (cc (e))
-broken_why (MakesOfGroup group) why e = absurd (cc (e))
-broken_why (FreesComm comm) why e = absurd (cc (e))
-broken_why Nothing why e = absurd (cc (e))
-broken_why Finalizes why e = absurd (cc (e))
-broken_why Exits why e = absurd (cc (e))
-broken_why Aborts why e = let is : Aborted ≡ why = cc (e) in subst (λ (one : Why). IsBroken one) is tt
-broken_why Fills why e = let is : Full ≡ why = cc (e) in subst (λ (one : Why). IsBroken one) is tt
-broken_why Stops why e = let is : Stopped ≡ why = cc (e) in subst (λ (one : Why). IsBroken one) is tt
+pub broken_why : (w : Bool) (it : Called) (why : Why) → breaks_off w it ≡ Some why → IsBroken why
+broken_why w (Sends mode sent) why e = absurd (cc (e))
+broken_why w (StartsSend request mode sent) why e = absurd (cc (e))
+broken_why w (Receives awaited) why e = absurd (cc (e))
+broken_why w (StartsReceive request awaited) why e = absurd (cc (e))
+broken_why w (Exchanges sent awaited) why e = absurd (cc (e))
+broken_why w (StartsExchange request received sent awaited) why e = absurd (cc (e))
+broken_why w (Probes awaited) why e = absurd (cc (e))
+broken_why w (ProbesMatching message awaited) why e = absurd (cc (e))
+broken_why w (ReceivesMatched message) why e = absurd (cc (e))
+broken_why w (StartsMatched request message) why e = absurd (cc (e))
+broken_why w (Waits requests) why e = absurd (cc (e))
+broken_why w (Tests requests) why e = absurd (cc (e))
+broken_why w (WaitsAny requests) why e = absurd (cc (e))
+broken_why w (WaitsSome requests) why e = absurd (cc (e))
+broken_why w (Cancels request) why e = absurd (cc (e))
+broken_why w (FreesRequest request) why e = absurd (cc (e))
+broken_why w (Collects collective comm root) why e = absurd (cc (e))
+broken_why w (StartsCollective request collective comm root) why e = absurd (cc (e))
+broken_why w (Duplicates comm) why e = absurd (cc (e))
+broken_why w (StartsDuplicate request comm) why e = absurd (cc (e))
+broken_why w (Splits comm colour key) why e = absurd (cc (e))
+broken_why w (Makes comm) why e = absurd (cc (e))
+broken_why w (MakesOfGroup group) why e = absurd (cc (e))
+broken_why w (FreesComm comm) why e = absurd (cc (e))
+broken_why w Nothing why e = absurd (cc (e))
+broken_why w Finalizes why e = absurd (cc (e))
+broken_why w Exits why e = absurd (cc (e))
+broken_why w Aborts why e = let is : Aborted ≡ why = cc (e) in subst (λ (one : Why). IsBroken one) is tt
+broken_why w Fills why e = let is : Full ≡ why = cc (e) in subst (λ (one : Why). IsBroken one) is tt
+broken_why w Stops why e = let is : Stopped ≡ why = cc (e) in subst (λ (one : Why). IsBroken one) is tt
+broken_why true Cuts why e = absurd (cc (e))
+broken_why false Cuts why e = let is : Cut ≡ why = cc (e) in subst (λ (one : Why). IsBroken one) is tt
 
 pub not_long : (why : Why) → IsBroken why → why ≡ TooLong → ⊥
 not_long why is long = subst (λ (one : Why). IsBroken one) long is
@@ -79,6 +82,7 @@ found_stands handed progress line it CannotBe h stands = (refl, stands)
 found_stands handed progress line it Stopped h stands = (refl, stands)
 found_stands handed progress line it Aborted h stands = (refl, stands)
 found_stands handed progress line it Full h stands = (refl, stands)
+found_stands handed progress line it Cut h stands = (refl, stands)
 found_stands handed progress line it NotJudged h stands = (refl, stands)
 found_stands handed progress line it NoJournal h stands = (refl, stands)
 found_stands handed progress line it TooLong h stands = absurd (h refl)
@@ -89,10 +93,10 @@ ends_entered : (outcome : Outcome) (why : Why) (handed : Handed) (progress : Pro
 ends_entered outcome why handed progress line it e short stands =
     subst (λ (one : Outcome). Entered (Err (Left why)) one handed progress line it) (sym e) (found_stands handed progress line it why short stands)
 
-pub breaks_entered : (run : Run) (choice : Choice) (placed : Placed) (why : Why) (handed : Handed) (progress : Progress) (it : ListCode) → breaks_off placed.called ≡ Some why
+pub breaks_entered : (run : Run) (choice : Choice) (placed : Placed) (why : Why) (handed : Handed) (progress : Progress) (it : ListCode) → breaks_off (is_window run) placed.called ≡ Some why
     → Stands handed progress it → Entered (Err (Left why)) (outcome_of run choice placed) handed progress placed.line it
 breaks_entered run choice placed why handed progress it e stands =
-    ends_entered (outcome_of run choice placed) why handed progress placed.line it (broken_is run choice placed why e) (not_long why (broken_why placed.called why e)) stands
+    ends_entered (outcome_of run choice placed) why handed progress placed.line it (broken_is run choice placed why e) (not_long why (broken_why (is_window run) placed.called why e)) stands
 
 -- ---- The call failed ----
 
@@ -101,37 +105,38 @@ none_of None others = refl
 none_of (Some why) others = absurd (others why refl)
 
 -- one that neither breaks the list off nor ends the rank's calls
-pub past_both : (it : Called) → breaks_off it ≡ None → is_end it ≡ false → goes_on_past it ≡ true
-past_both (Sends mode sent) e f = refl
-past_both (StartsSend request mode sent) e f = refl
-past_both (Receives awaited) e f = refl
-past_both (StartsReceive request awaited) e f = refl
-past_both (Exchanges sent awaited) e f = refl
-past_both (StartsExchange request received sent awaited) e f = refl
-past_both (Probes awaited) e f = refl
-past_both (ProbesMatching message awaited) e f = refl
-past_both (ReceivesMatched message) e f = refl
-past_both (StartsMatched request message) e f = refl
-past_both (Waits requests) e f = refl
-past_both (Tests requests) e f = refl
-past_both (WaitsAny requests) e f = refl
-past_both (WaitsSome requests) e f = refl
-past_both (Cancels request) e f = refl
-past_both (FreesRequest request) e f = refl
-past_both (Collects collective comm root) e f = refl
-past_both (StartsCollective request collective comm root) e f = refl
-past_both (Duplicates comm) e f = refl
-past_both (StartsDuplicate request comm) e f = refl
-past_both (Splits comm colour key) e f = refl
-past_both (Makes comm) e f = refl
-past_both (MakesOfGroup group) e f = refl
-past_both (FreesComm comm) e f = refl
-past_both Nothing e f = refl
-past_both Finalizes e f = cc (f)
-past_both Exits e f = cc (f)
-past_both Aborts e f = cc (e)
-past_both Fills e f = cc (e)
-past_both Stops e f = cc (e)
+pub past_both : (w : Bool) (it : Called) → breaks_off w it ≡ None → is_end it ≡ false → goes_on_past it ≡ true
+past_both w (Sends mode sent) e f = refl
+past_both w (StartsSend request mode sent) e f = refl
+past_both w (Receives awaited) e f = refl
+past_both w (StartsReceive request awaited) e f = refl
+past_both w (Exchanges sent awaited) e f = refl
+past_both w (StartsExchange request received sent awaited) e f = refl
+past_both w (Probes awaited) e f = refl
+past_both w (ProbesMatching message awaited) e f = refl
+past_both w (ReceivesMatched message) e f = refl
+past_both w (StartsMatched request message) e f = refl
+past_both w (Waits requests) e f = refl
+past_both w (Tests requests) e f = refl
+past_both w (WaitsAny requests) e f = refl
+past_both w (WaitsSome requests) e f = refl
+past_both w (Cancels request) e f = refl
+past_both w (FreesRequest request) e f = refl
+past_both w (Collects collective comm root) e f = refl
+past_both w (StartsCollective request collective comm root) e f = refl
+past_both w (Duplicates comm) e f = refl
+past_both w (StartsDuplicate request comm) e f = refl
+past_both w (Splits comm colour key) e f = refl
+past_both w (Makes comm) e f = refl
+past_both w (MakesOfGroup group) e f = refl
+past_both w (FreesComm comm) e f = refl
+past_both w Nothing e f = refl
+past_both w Finalizes e f = cc (f)
+past_both w Exits e f = cc (f)
+past_both w Aborts e f = cc (e)
+past_both w Fills e f = cc (e)
+past_both w Stops e f = cc (e)
+past_both w Cuts e f = cc (f)
 
 pub failed_entered : (run : Run) (choice : Choice) (placed : Placed) (handed : Handed) (progress : Progress) (it : ListCode) → goes_on_past placed.called ≡ true
     → has_report report.Failed placed.entry ≡ true → Stands handed progress it
@@ -145,20 +150,20 @@ late_same : (progress : Progress) (line : ℕ) (ids : List Id) → ids ≡ progr
 late_same progress line ids e = ap (λ (late : List Id). after_step progress line (WaitsForAll late)) e
 
 -- after the waits for the sends that tests completed
-pub end_entered : (run : Run) (choice : Choice) (placed : Placed) (handed : Handed) (progress : Progress) (ids : List Id) (it : ListCode) → is_end placed.called ≡ true
+pub end_entered : (run : Run) (choice : Choice) (placed : Placed) (handed : Handed) (progress : Progress) (ids : List Id) (it : ListCode) → breaks_off (is_window run) placed.called ≡ None → is_end placed.called ≡ true
     → has_report report.Failed placed.entry ≡ false → ids ≡ progress.late → Stands handed (after_step progress placed.line (WaitsForAll ids)) it
     → Entered (Ok true) (outcome_of run choice placed) handed progress placed.line it
-end_entered run choice placed handed progress ids it e failed late stands =
-    subst (λ (one : Outcome). Entered (Ok true) one handed progress placed.line it) (sym (ended_is run choice placed e failed))
+end_entered run choice placed handed progress ids it broken e failed late stands =
+    subst (λ (one : Outcome). Entered (Ok true) one handed progress placed.line it) (sym (ended_is run choice placed broken e failed))
     (refl, (refl, subst (λ (one : Progress). Stands handed one it) (late_same progress placed.line ids late) stands))
 
 pub end_stops : (A : Type 0) (run : Run) (choice : Choice) (placed : Placed) (handed : Handed) (progress : Progress) (ids : List Id) (stop : Stop) (it : ListCode)
-    → is_end placed.called ≡ true → has_report report.Failed placed.entry ≡ false → ids ≡ progress.late
+    → breaks_off (is_window run) placed.called ≡ None → is_end placed.called ≡ true → has_report report.Failed placed.entry ≡ false → ids ≡ progress.late
     → ComesTo {A = A} (Err stop) handed (after_step progress placed.line (WaitsForAll ids)) placed.line it
     → Entered (Err stop) (outcome_of run choice placed) handed progress placed.line it
-end_stops A run choice placed handed progress ids stop it e failed late comes =
+end_stops A run choice placed handed progress ids stop it broken e failed late comes =
     let after = after_step progress placed.line WaitsForLate in
-    subst (λ (one : Outcome). Entered (Err stop) one handed progress placed.line it) (sym (ended_is run choice placed e failed))
+    subst (λ (one : Outcome). Entered (Err stop) one handed progress placed.line it) (sym (ended_is run choice placed broken e failed))
     (ends_cut A Bool stop handed after placed.line None it
     (subst (λ (one : Progress). ComesTo {A = A} (Err stop) handed one placed.line it) (late_same progress placed.line ids late) comes))
 
@@ -180,6 +185,7 @@ ends_as A (Left CannotBe) handed progress line why it is = is
 ends_as A (Left Stopped) handed progress line why it is = is
 ends_as A (Left Aborted) handed progress line why it is = is
 ends_as A (Left Full) handed progress line why it is = is
+ends_as A (Left Cut) handed progress line why it is = is
 ends_as A (Left NotJudged) handed progress line why it is = is
 ends_as A (Left NoJournal) handed progress line why it is = is
 

@@ -6,7 +6,7 @@ use Rattle.std.specs.List.{AllZip, filter_map, flat_map}
 use Rattle.std.proofs.lemmas.Bool.{false≢true}
 use Rattle.std.proofs.lemmas.List.{map-append}
 use Rattle.std.proofs.lemmas.Option.{slice_get_within}
-use Rattle.closing.specs.Entries.{Run, entries_at, ranks_of}
+use Rattle.closing.specs.Entries.{Run, entries_at, ranks_of, is_window}
 use Rattle.closing.specs.FitComms.{HasFitComms, IsFitGroup}
 use Rattle.closing.specs.Keys.{Key, World, group_of_key, same_key}
 use Rattle.closing.specs.Made.{inferred_key, keys_at}
@@ -194,8 +194,9 @@ pub run_kept : (run : Run) (survey : Survey) (it : Communicators) (numbers : Lis
     → (AreBelow (length survey.keys.codes) it.numbered.items → (wave : WaveCode) → contains_by (same_wave wave) it.bringing ≡ brings_at survey.keys it.numbered.items wave)
     → it.preface.ranks ≡ length run
     → (0 < length it.numbered.items → AreBelow (length survey.keys.codes) it.numbered.items → AreGroupsOf survey.keys (length run) it.numbered.items → IsPreface it.preface (length it.numbered.items) (put_all (seated_from survey.keys 1 (drop 1 it.numbered.items)) []))
+    → it.is_window ≡ is_window run
     → IsNumberedRun run it
-run_kept run survey it numbers fit s same_table same_inferred room is given named brings ranks lines =
+run_kept run survey it numbers fit s same_table same_inferred room is given named brings ranks lines window =
     let table = survey.keys in
     let all_places = places_same run survey s in
     let below : AreBelow (length numbers) (places_in survey) = subst (λ n. AreBelow n (places_in survey)) (sym room) (places_below table (places_in survey) (flat_map (keys_at run) (ranks_of run)) s.table all_places) in
@@ -206,6 +207,7 @@ run_kept run survey it numbers fit s same_table same_inferred room is given name
     let started = zip_some table it.numbered.items World (drop 1 (numbered_keys run)) all in
     record {
       fit = fit;
+      window = window;
       table = subst (λ t. IsTable t) (sym same_table) s.table;
       ranks = ap ranks_in same_table ∙ s.ranks;
       numbered = subst (λ t. AllZip (HasKey t) it.numbered.items (numbered_keys run)) (sym same_table) all;
@@ -250,6 +252,7 @@ brings_grown old new places wave grows below =
 pub run_grows : (run : Run) (it : Communicators) (new : Table) → IsNumberedRun run it → Grows it.keys new → IsNumberedRun run (record it { keys = new })
 run_grows run it new h grows = record {
   fit = h.fit;
+  window = h.window;
   table = grows.table;
   ranks = grows.ranks ∙ h.ranks;
   numbered = zip_grown it.keys new it.numbered.items (numbered_keys run) grows h.numbered;

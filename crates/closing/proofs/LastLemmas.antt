@@ -104,6 +104,7 @@ says_step lines all others it report.Failed fields n e h = record { got = h.got;
 says_step lines all others it report.Done fields n e h = record { got = h.got; chose = h.chose; comm = h.comm; has_failed = h.has_failed }
 says_step lines all others it report.Gone fields n e h = record { got = h.got; chose = h.chose; comm = h.comm; has_failed = h.has_failed }
 says_step lines all others it report.Kept fields n e h = record { got = h.got; chose = h.chose; comm = h.comm; has_failed = h.has_failed }
+says_step lines all others it report.Moved fields n e h = record { got = h.got; chose = h.chose; comm = h.comm; has_failed = h.has_failed }
 says_step lines all others it report.Idup fields n e h = record { got = h.got; chose = h.chose; comm = h.comm; has_failed = h.has_failed }
 says_step lines all others it report.NoComm fields n e h = record { got = h.got; chose = h.chose; comm = h.comm; has_failed = h.has_failed }
 says_step lines all others it report.Apart fields n e h = record { got = h.got; chose = h.chose; comm = h.comm; has_failed = h.has_failed }

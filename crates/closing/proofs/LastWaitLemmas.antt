@@ -105,6 +105,7 @@ wave_kept_by : (comms : RankComms) (word : ReportWord) (fields : List Field) (gr
 wave_kept_by comms report.Done fields group none = refl
 wave_kept_by comms report.Gone fields group none = refl
 wave_kept_by comms report.Kept fields group none = refl
+wave_kept_by comms report.Moved fields group none = refl
 wave_kept_by comms report.Apart [] group none = refl
 wave_kept_by comms report.Apart (Natural number ∷ fields) group none = refl
 wave_kept_by comms report.Apart (Signed number ∷ fields) group none = refl

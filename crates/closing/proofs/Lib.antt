@@ -51,6 +51,7 @@ pub mod TableLemmas
 pub mod PlaceListLemmas
 pub mod CallLemmas
 pub mod CodeLemmas
+pub mod CutLemmas
 pub mod HoldsLemmas
 pub mod KeyLemmas
 pub mod ReportLemmas
@@ -87,3 +88,4 @@ pub mod SunkWaits
 pub mod SunkBlocks
 pub mod SunkCalls
 pub mod BackLemmas
+pub mod MovedLemmas

@@ -22,7 +22,7 @@ use Rattle.closing.specs.declared.list.Start.TheVariants as code
 use Rattle.closing.specs.declared.list.TheConstants.{MOST_RECORDS}
 use Rattle.closing.specs.declared.stop.Stop.{Stop}
 use Rattle.closing.specs.declared.stop.Stop.TheVariants.{Left, Memory}
-use Rattle.closing.specs.declared.why.Why.TheVariants.{NeverCameBack, NeverReported, Failed, NoNumber, TooLong, CannotBe, Stopped, Aborted, Full, NoJournal, NotJudged}
+use Rattle.closing.specs.declared.why.Why.TheVariants.{NeverCameBack, NeverReported, Failed, NoNumber, TooLong, CannotBe, Stopped, Aborted, Full, Cut, NoJournal, NotJudged}
 use Rattle.closing.proofs.FreedPlaces.{StartNone, places_cut, places_full, places_more, places_started, plain_starts}
 
 -- ---- Records ----
@@ -97,6 +97,7 @@ stop_comes A B (Left CannotBe) handed progress line old new it calls cut adds = 
 stop_comes A B (Left Stopped) handed progress line old new it calls cut adds = absurd adds
 stop_comes A B (Left Aborted) handed progress line old new it calls cut adds = absurd adds
 stop_comes A B (Left Full) handed progress line old new it calls cut adds = absurd adds
+stop_comes A B (Left Cut) handed progress line old new it calls cut adds = absurd adds
 stop_comes A B (Left NotJudged) handed progress line old new it calls cut adds = absurd adds
 stop_comes A B (Left NoJournal) handed progress line old new it calls cut adds = absurd adds
 

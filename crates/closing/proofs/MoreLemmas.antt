@@ -11,7 +11,7 @@ use Rattle.closing.specs.declared.list.TheConstants.{MOST_RECORDS}
 use Rattle.closing.specs.declared.stop.Stop.{Stop}
 use Rattle.closing.specs.declared.stop.Stop.TheVariants.{Left, Memory}
 use Rattle.closing.specs.declared.why.Why.{Why}
-use Rattle.closing.specs.declared.why.Why.TheVariants.{NeverCameBack, NeverReported, Failed, NoNumber, TooLong, CannotBe, Stopped, Aborted, Full, NoJournal, NotJudged}
+use Rattle.closing.specs.declared.why.Why.TheVariants.{NeverCameBack, NeverReported, Failed, NoNumber, TooLong, CannotBe, Stopped, Aborted, Full, Cut, NoJournal, NotJudged}
 use Rattle.closing.proofs.GrownLemmas.{Grown, grown_all}
 
 module _ (handed : Handed) (p : Progress) (old new : ListCode) (before : Stands handed p old) where
@@ -44,6 +44,7 @@ module _ (handed : Handed) (p : Progress) (old new : ListCode) (before : Stands 
   comes_more q line Stopped grown comes = absurd comes
   comes_more q line Aborted grown comes = absurd comes
   comes_more q line Full grown comes = absurd comes
+  comes_more q line Cut grown comes = absurd comes
   comes_more q line NotJudged grown comes = absurd comes
   comes_more q line NoJournal grown comes = absurd comes
 
@@ -57,6 +58,7 @@ module _ (handed : Handed) (p : Progress) (old new : ListCode) (before : Stands 
   ends_more q line found Stopped grown ends = stands_more q grown ends.1
   ends_more q line found Aborted grown ends = stands_more q grown ends.1
   ends_more q line found Full grown ends = stands_more q grown ends.1
+  ends_more q line found Cut grown ends = stands_more q grown ends.1
   ends_more q line found NotJudged grown ends = stands_more q grown ends.1
   ends_more q line found NoJournal grown ends = stands_more q grown ends.1
 

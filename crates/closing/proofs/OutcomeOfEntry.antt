@@ -9,10 +9,10 @@ use Rattle.journals.specs.Journal.{Journal}
 use Rattle.journals.specs.Lines.{Line}
 use Rattle.journals.specs.Entries.{Entry}
 use Rattle.journals.specs.declared.word.ReportWord.TheVariants as report
-use Rattle.closing.specs.Called.{Called, Sends, StartsSend, Receives, StartsReceive, Exchanges, StartsExchange, Probes, ProbesMatching, ReceivesMatched, StartsMatched, Waits, Tests, WaitsAny, WaitsSome, Cancels, FreesRequest, Collects, StartsCollective, Duplicates, Splits, Makes, StartsDuplicate, MakesOfGroup, FreesComm, Nothing, Finalizes, Exits, Aborts, Fills, Stops}
-use Rattle.closing.specs.Entries.{Run, Placed}
+use Rattle.closing.specs.Called.{Called, Sends, StartsSend, Receives, StartsReceive, Exchanges, StartsExchange, Probes, ProbesMatching, ReceivesMatched, StartsMatched, Waits, Tests, WaitsAny, WaitsSome, Cancels, FreesRequest, Collects, StartsCollective, Duplicates, Splits, Makes, StartsDuplicate, MakesOfGroup, FreesComm, Nothing, Finalizes, Exits, Aborts, Fills, Stops, Cuts}
+use Rattle.closing.specs.Entries.{Run, Placed, is_window}
 use Rattle.closing.specs.RankComms.{RankComms}
-use Rattle.closing.specs.Reported.{Message, done_of, got_in, is_gone, is_settled, message_of, root_can_be}
+use Rattle.closing.specs.Reported.{Message, done_of, got_in, is_gone, is_settled, message_of, root_can_be, unless_moved}
 use Rattle.closing.specs.Steps.{Step, WaitsForLate}
 use Rattle.mpicall.specs.declared.call.Mode.TheVariants.{Standard}
 use Rattle.closing.specs.Endings.{breaks_off, first_of, why_at, number_at, sent_can_be, size_at}
@@ -126,6 +126,7 @@ goes_on_past Exits = false
 goes_on_past Aborts = false
 goes_on_past Fills = false
 goes_on_past Stops = false
+goes_on_past Cuts = false
 goes_on_past it = true
 
 abbrev pub failed_or : Entry → Outcome → Outcome
@@ -210,7 +211,7 @@ module _ (run : Run) (choice : Choice) (rank : ℕ) (journal : Journal) (line : 
   of_entry (StartsReceive request awaited) h =
       of_call (StartsReceive request awaited)
       ∙ by_comm (StartsReceive request awaited) _ (number_at run (at (StartsReceive request awaited))) _ _ _ refl refl refl
-      (λ comm e. by_receive (before (StartsReceive request awaited)) [] (spot (StartsReceive request awaited)) comm request (message_of awaited (done_of journal.lines request)) (λ none. refl))
+      (λ comm e. by_receive (before (StartsReceive request awaited)) [] (spot (StartsReceive request awaited)) comm request (message_of (unless_moved journal.lines request awaited) (done_of journal.lines request)) (λ none. refl))
   of_entry (Exchanges sent awaited) h =
       of_call (Exchanges sent awaited)
       ∙ by_comm (Exchanges sent awaited) _ (number_at run (at (Exchanges sent awaited))) _ _ _ refl refl refl
@@ -218,7 +219,7 @@ module _ (run : Run) (choice : Choice) (rank : ℕ) (journal : Journal) (line : 
   of_entry (StartsExchange request received sent awaited) h =
       of_call (StartsExchange request received sent awaited)
       ∙ by_comm (StartsExchange request received sent awaited) _ (number_at run (at (StartsExchange request received sent awaited))) _ _ _ refl refl refl
-      (λ comm e. by_receive (before (StartsExchange request received sent awaited)) _ (spot (StartsExchange request received sent awaited)) comm received (message_of awaited (done_of journal.lines received))
+      (λ comm e. by_receive (before (StartsExchange request received sent awaited)) _ (spot (StartsExchange request received sent awaited)) comm received (message_of (unless_moved journal.lines received awaited) (done_of journal.lines received))
       (λ none. ap (λ n. steps_by run choice (at (StartsExchange request received sent awaited)) n) e
       ∙ ap (λ m. starts_at (spot (StartsExchange request received sent awaited)) request (start_send Standard comm sent)
       ++ option_map_or (λ it. starts_at (spot (StartsExchange request received sent awaited)) received (start_receive comm it)) m []) none))
@@ -266,47 +267,55 @@ module _ (run : Run) (choice : Choice) (rank : ℕ) (journal : Journal) (line : 
   of_entry Aborts h = cc
   of_entry Fills h = cc
   of_entry Stops h = cc
+  of_entry Cuts h = cc
 
-  of_end : (it : Called) → is_end it ≡ true → has_report report.Failed entry ≡ false → outcome_of run choice (at it) ≡ Ends (WaitsForLate ∷ []) Finalize None
-  of_end Finalizes h e =
+  of_end : (it : Called) → breaks_off (is_window run) it ≡ None → is_end it ≡ true → has_report report.Failed entry ≡ false → outcome_of run choice (at it) ≡ Ends (WaitsForLate ∷ []) Finalize None
+  of_end Finalizes n h e =
       of_call Finalizes
       ∙ ap (λ failed. outcome_with (before Finalizes) (Ends (WaitsForLate ∷ []) Finalize None) (first_of ((failed, Failed) ∷ (false, CannotBe) ∷ (false, NoNumber) ∷ rest_of false false))) e
-  of_end Exits h e =
+  of_end Exits n h e =
       of_call Exits
       ∙ ap (λ failed. outcome_with (before Exits) (Ends (WaitsForLate ∷ []) Finalize None) (first_of ((failed, Failed) ∷ (false, CannotBe) ∷ (false, NoNumber) ∷ rest_of false false))) e
-  of_end (Sends mode it) h e = cc
-  of_end (StartsSend request mode it) h e = cc
-  of_end (Receives awaited) h e = cc
-  of_end (StartsReceive request awaited) h e = cc
-  of_end (Exchanges sent awaited) h e = cc
-  of_end (StartsExchange request received sent awaited) h e = cc
-  of_end (Probes awaited) h e = cc
-  of_end (ProbesMatching message awaited) h e = cc
-  of_end (ReceivesMatched message) h e = cc
-  of_end (StartsMatched request message) h e = cc
-  of_end (Waits requests) h e = cc
-  of_end (Tests requests) h e = cc
-  of_end (WaitsAny requests) h e = cc
-  of_end (WaitsSome requests) h e = cc
-  of_end (Cancels request) h e = cc
-  of_end (FreesRequest request) h e = cc
-  of_end (Collects collective comm root) h e = cc
-  of_end (StartsCollective request collective comm root) h e = cc
-  of_end (Duplicates comm) h e = cc
-  of_end (StartsDuplicate request comm) h e = cc
-  of_end (Splits comm colour key) h e = cc
-  of_end (Makes comm) h e = cc
-  of_end (MakesOfGroup group) h e = cc
-  of_end (FreesComm comm) h e = cc
-  of_end Nothing h e = cc
-  of_end Aborts h e = cc
-  of_end Fills h e = cc
-  of_end Stops h e = cc
+  of_end (Sends mode it) n h e = cc
+  of_end (StartsSend request mode it) n h e = cc
+  of_end (Receives awaited) n h e = cc
+  of_end (StartsReceive request awaited) n h e = cc
+  of_end (Exchanges sent awaited) n h e = cc
+  of_end (StartsExchange request received sent awaited) n h e = cc
+  of_end (Probes awaited) n h e = cc
+  of_end (ProbesMatching message awaited) n h e = cc
+  of_end (ReceivesMatched message) n h e = cc
+  of_end (StartsMatched request message) n h e = cc
+  of_end (Waits requests) n h e = cc
+  of_end (Tests requests) n h e = cc
+  of_end (WaitsAny requests) n h e = cc
+  of_end (WaitsSome requests) n h e = cc
+  of_end (Cancels request) n h e = cc
+  of_end (FreesRequest request) n h e = cc
+  of_end (Collects collective comm root) n h e = cc
+  of_end (StartsCollective request collective comm root) n h e = cc
+  of_end (Duplicates comm) n h e = cc
+  of_end (StartsDuplicate request comm) n h e = cc
+  of_end (Splits comm colour key) n h e = cc
+  of_end (Makes comm) n h e = cc
+  of_end (MakesOfGroup group) n h e = cc
+  of_end (FreesComm comm) n h e = cc
+  of_end Nothing n h e = cc
+  of_end Aborts n h e = cc
+  of_end Fills n h e = cc
+  of_end Stops n h e = cc
+  of_end Cuts n h e =
+      of_call Cuts
+      ∙ ap (λ some. outcome_with (before Cuts) (Ends (WaitsForLate ∷ []) Finalize None) (or_else some (first_of ((has_report report.Failed entry, Failed) ∷ (false, CannotBe) ∷ (false, NoNumber) ∷ rest_of false false)))) n
+      ∙ ap (λ failed. outcome_with (before Cuts) (Ends (WaitsForLate ∷ []) Finalize None) (first_of ((failed, Failed) ∷ (false, CannotBe) ∷ (false, NoNumber) ∷ rest_of false false))) e
 
-  of_break : (it : Called) (why : Why) → breaks_off it ≡ Some why → outcome_of run choice (at it) ≡ ends why
+  of_break : (it : Called) (why : Why) → breaks_off (is_window run) it ≡ Some why → outcome_of run choice (at it) ≡ ends why
   of_break Stops why e = of_call Stops ∙ ap (λ some. outcome_with (before Stops) (GoesOn (steps_of run choice (at Stops))) some) e
   of_break Aborts why e = of_call Aborts ∙ ap (λ some. outcome_with (before Aborts) (GoesOn (steps_of run choice (at Aborts))) some) e
   of_break Fills why e = of_call Fills ∙ ap (λ some. outcome_with (before Fills) (GoesOn (steps_of run choice (at Fills))) some) e
+  of_break Cuts why e =
+      of_call Cuts
+      ∙ ap (λ some. outcome_with (before Cuts) (Ends (WaitsForLate ∷ []) Finalize None) (or_else some (first_of ((has_report report.Failed entry, Failed) ∷ (false, CannotBe) ∷ (false, NoNumber) ∷ rest_of false false)))) e
   of_break Finalizes why e = cc
   of_break Exits why e = cc
   of_break (Sends mode it) why e = cc
@@ -351,10 +360,10 @@ failed_is run choice it h e =
     ∙ ap (λ failed. if failed then ends Failed else outcome_on choice (spot_of run choice it) it.called) e
 
 -- the last call of the rank
-pub ended_is : (run : Run) (choice : Choice) (it : Placed) → is_end it.called ≡ true → has_report report.Failed it.entry ≡ false
+pub ended_is : (run : Run) (choice : Choice) (it : Placed) → breaks_off (is_window run) it.called ≡ None → is_end it.called ≡ true → has_report report.Failed it.entry ≡ false
     → outcome_of run choice it ≡ Ends (WaitsForLate ∷ []) Finalize None
-ended_is run choice it h e = of_end run choice it.rank it.journal it.line it.entry it.comms it.came_back it.called h e
+ended_is run choice it n h e = of_end run choice it.rank it.journal it.line it.entry it.comms it.came_back it.called n h e
 
 -- a call after which nothing is known of the rank
-pub broken_is : (run : Run) (choice : Choice) (it : Placed) (why : Why) → breaks_off it.called ≡ Some why → outcome_of run choice it ≡ ends why
+pub broken_is : (run : Run) (choice : Choice) (it : Placed) (why : Why) → breaks_off (is_window run) it.called ≡ Some why → outcome_of run choice it ≡ ends why
 broken_is run choice it why e = of_break run choice it.rank it.journal it.line it.entry it.comms it.came_back it.called why e

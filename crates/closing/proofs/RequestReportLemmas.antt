@@ -15,7 +15,7 @@ use Rattle.journals.specs.declared.word.Word.TheVariants.{Call, Report}
 use Rattle.journals.specs.declared.word.CallWord.{CallWord}
 use Rattle.journals.specs.declared.word.ReportWord.{ReportWord}
 use Rattle.journals.specs.declared.word.ReportWord.TheVariants as report
-use Rattle.closing.specs.Reported.{Message, done_in, done_of, says_gone, says_kept, is_kept}
+use Rattle.closing.specs.Reported.{Message, done_in, done_of, says_gone, says_kept, says_moved, is_kept}
 use Rattle.closing.specs.Reported as say
 use Rattle.closing.specs.inner.Outcomes.{outcome_in, outcome_by, outcome_with, outcome_at_line, outcome_after, outcome_at, message_after, message_by}
 use Rattle.closing.specs.inner.Outcomes as code
@@ -27,7 +27,7 @@ use Rattle.closing.specs.Fit.{reports_of, report_count, IsFormed, AreFormed}
 use Rattle.closing.specs.inner.RequestReports.{AreReadable, Tells, AllStandFor}
 use Rattle.closing.specs.declared.standing.Standing.{Standing}
 use Rattle.closing.specs.declared.outcomes.Outcome.{Outcome}
-use Rattle.closing.specs.declared.outcomes.Outcome.TheVariants.{Unknown, Done, Gone, Kept}
+use Rattle.closing.specs.declared.outcomes.Outcome.TheVariants.{Unknown, Done, Gone, Kept, Moved}
 use Rattle.closing.specs.declared.outcomes.Outcomes.{Outcomes}
 
 -- ---- The line at a place ----
@@ -76,6 +76,7 @@ record SaysNothing (request : ℕ) (word : Word) (fields : List Field) : Type 0 
   done : done_in request word fields ≡ None
   gone : says_gone request word fields ≡ false
   kept : says_kept request word fields ≡ false
+  moved : says_moved request word fields ≡ false
 
 record SaysDone (request : ℕ) (word : Word) (fields : List Field) : Type 0 where
   message : Message
@@ -84,22 +85,32 @@ record SaysDone (request : ℕ) (word : Word) (fields : List Field) : Type 0 whe
   done : done_in request word fields ≡ Some message
   gone : says_gone request word fields ≡ false
   kept : says_kept request word fields ≡ false
+  moved : says_moved request word fields ≡ false
 
 record SaysGone (request : ℕ) (word : Word) (fields : List Field) : Type 0 where
   outcome : (place : ℕ) (before : Outcome) → outcome_with word fields place request before ≡ Gone
   done : done_in request word fields ≡ None
   gone : says_gone request word fields ≡ true
   kept : says_kept request word fields ≡ false
+  moved : says_moved request word fields ≡ false
 
 record SaysKept (request : ℕ) (word : Word) (fields : List Field) : Type 0 where
   outcome : (place : ℕ) (before : Outcome) → outcome_with word fields place request before ≡ Kept
   done : done_in request word fields ≡ None
   gone : says_gone request word fields ≡ false
   kept : says_kept request word fields ≡ true
+  moved : says_moved request word fields ≡ false
+
+record SaysMoved (request : ℕ) (word : Word) (fields : List Field) : Type 0 where
+  outcome : (place : ℕ) (before : Outcome) → outcome_with word fields place request before ≡ Moved
+  done : done_in request word fields ≡ None
+  gone : says_gone request word fields ≡ false
+  kept : says_kept request word fields ≡ false
+  moved : says_moved request word fields ≡ true
 
 abbrev Effect : ℕ → Word → List Field → Type 0
 Effect request word fields =
-    SaysNothing request word fields ⊎ (SaysDone request word fields ⊎ (SaysGone request word fields ⊎ SaysKept request word fields))
+    SaysNothing request word fields ⊎ (SaysDone request word fields ⊎ (SaysGone request word fields ⊎ (SaysKept request word fields ⊎ SaysMoved request word fields)))
 
 same_if : (b : Bool) (it : Outcome) → cond b it it ≡ it
 same_if true it = refl
@@ -107,7 +118,7 @@ same_if false it = refl
 
 effect : (request : ℕ) (word : Word) (fields : List Field) → IsFormed word fields → Effect request word fields
 effect request (Call word) fields formed =
-    inl (record { outcome = λ place before. refl; done = refl; gone = refl; kept = refl })
+    inl (record { outcome = λ place before. refl; done = refl; gone = refl; kept = refl; moved = refl })
 effect request (Report report.Done) (Natural done ∷ source ∷ tag ∷ []) formed = elim (cases_eq done request) [
   | inl same ↦
       let test : eqb done request ≡ true = eq-eqb done request same in
@@ -118,6 +129,7 @@ effect request (Report report.Done) (Natural done ∷ source ∷ tag ∷ []) for
         done = cond-true (eqb done request) (Some (record { source = source; tag = tag })) None test;
         gone = refl;
         kept = refl;
+        moved = refl;
       }))
   | inr apart ↦
       let test : eqb done request ≡ false = ne_eqb done request apart in
@@ -126,6 +138,7 @@ effect request (Report report.Done) (Natural done ∷ source ∷ tag ∷ []) for
         done = cond-false (eqb done request) (Some (record { source = source; tag = tag })) None test;
         gone = refl;
         kept = refl;
+        moved = refl;
       })
 ]
 effect request (Report report.Done) [] formed = absurd (omega arith)
@@ -133,7 +146,7 @@ effect request (Report report.Done) (one ∷ []) formed = absurd (omega arith)
 effect request (Report report.Done) (one ∷ two ∷ []) formed = absurd (omega arith)
 effect request (Report report.Done) (one ∷ two ∷ three ∷ four ∷ fields) formed = absurd (omega arith)
 effect request (Report report.Done) (one ∷ two ∷ three ∷ []) formed =
-    inl (record { outcome = λ place before. refl; done = refl; gone = refl; kept = refl })
+    inl (record { outcome = λ place before. refl; done = refl; gone = refl; kept = refl; moved = refl })
 effect request (Report report.Gone) (Natural gone ∷ []) formed = elim (cases_eq gone request) [
   | inl same ↦
       let test : eqb gone request ≡ true = eq-eqb gone request same in
@@ -142,6 +155,7 @@ effect request (Report report.Gone) (Natural gone ∷ []) formed = elim (cases_e
         done = refl;
         gone = test;
         kept = refl;
+        moved = refl;
       })))
   | inr apart ↦
       let test : eqb gone request ≡ false = ne_eqb gone request apart in
@@ -150,21 +164,23 @@ effect request (Report report.Gone) (Natural gone ∷ []) formed = elim (cases_e
         done = refl;
         gone = test;
         kept = refl;
+        moved = refl;
       })
 ]
 effect request (Report report.Gone) [] formed = absurd (omega arith)
 effect request (Report report.Gone) (one ∷ two ∷ fields) formed = absurd (omega arith)
 effect request (Report report.Gone) (one ∷ []) formed =
-    inl (record { outcome = λ place before. refl; done = refl; gone = refl; kept = refl })
+    inl (record { outcome = λ place before. refl; done = refl; gone = refl; kept = refl; moved = refl })
 effect request (Report report.Kept) (Natural kept ∷ []) formed = elim (cases_eq kept request) [
   | inl same ↦
       let test : eqb kept request ≡ true = eq-eqb kept request same in
-      inr (inr (inr (record {
+      inr (inr (inr (inl (record {
         outcome = λ place before. cond-true (eqb kept request) Kept before test;
         done = refl;
         gone = refl;
         kept = test;
-      })))
+        moved = refl;
+      }))))
   | inr apart ↦
       let test : eqb kept request ≡ false = ne_eqb kept request apart in
       inl (record {
@@ -172,37 +188,70 @@ effect request (Report report.Kept) (Natural kept ∷ []) formed = elim (cases_e
         done = refl;
         gone = refl;
         kept = test;
+        moved = refl;
       })
 ]
 effect request (Report report.Kept) [] formed = absurd (omega arith)
 effect request (Report report.Kept) (one ∷ two ∷ fields) formed = absurd (omega arith)
 effect request (Report report.Kept) (one ∷ []) formed =
-    inl (record { outcome = λ place before. refl; done = refl; gone = refl; kept = refl })
+    inl (record { outcome = λ place before. refl; done = refl; gone = refl; kept = refl; moved = refl })
+effect request (Report report.Moved) (Natural moved ∷ []) formed = elim (cases_eq moved request) [
+  | inl same ↦
+      let test : eqb moved request ≡ true = eq-eqb moved request same in
+      inr (inr (inr (inr (record {
+        outcome = λ place before. cond-true (eqb moved request) Moved before test;
+        done = refl;
+        gone = refl;
+        kept = refl;
+        moved = test;
+      }))))
+  | inr apart ↦
+      let test : eqb moved request ≡ false = ne_eqb moved request apart in
+      inl (record {
+        outcome = λ place before. cond-false (eqb moved request) Moved before test;
+        done = refl;
+        gone = refl;
+        kept = refl;
+        moved = test;
+      })
+]
+effect request (Report report.Moved) [] formed = absurd (omega arith)
+effect request (Report report.Moved) (one ∷ two ∷ fields) formed = absurd (omega arith)
+effect request (Report report.Moved) (one ∷ []) formed =
+    inl (record { outcome = λ place before. refl; done = refl; gone = refl; kept = refl; moved = refl })
 effect request (Report word) (Natural number ∷ fields) formed =
-    inl (record { outcome = λ place before. same_if (eqb number request) before; done = refl; gone = refl; kept = refl })
+    inl (record { outcome = λ place before. same_if (eqb number request) before; done = refl; gone = refl; kept = refl; moved = refl })
 effect request (Report word) fields formed =
-    inl (record { outcome = λ place before. refl; done = refl; gone = refl; kept = refl })
+    inl (record { outcome = λ place before. refl; done = refl; gone = refl; kept = refl; moved = refl })
 
 -- ---- What all lines say of it ----
 
 no_report : (request : ℕ) (word : Word) (fields : List Field) → SaysNothing request word fields → reports_of request word fields ≡ false
 no_report request word fields it =
-    or_from (is_some (done_in request word fields) || says_gone request word fields) (says_kept request word fields)
-    (or_from (is_some (done_in request word fields)) (says_gone request word fields) (ap is_some it.done) it.gone) it.kept
+    or_from (is_some (done_in request word fields) || says_gone request word fields || says_kept request word fields) (says_moved request word fields)
+    (or_from (is_some (done_in request word fields) || says_gone request word fields) (says_kept request word fields)
+    (or_from (is_some (done_in request word fields)) (says_gone request word fields) (ap is_some it.done) it.gone) it.kept) it.moved
 
 done_report : (request : ℕ) (word : Word) (fields : List Field) → SaysDone request word fields → reports_of request word fields ≡ true
 done_report request word fields it =
-    or_left (is_some (done_in request word fields) || says_gone request word fields) (says_kept request word fields)
-    (or_left (is_some (done_in request word fields)) (says_gone request word fields) (ap is_some it.done))
+    or_left (is_some (done_in request word fields) || says_gone request word fields || says_kept request word fields) (says_moved request word fields)
+    (or_left (is_some (done_in request word fields) || says_gone request word fields) (says_kept request word fields)
+    (or_left (is_some (done_in request word fields)) (says_gone request word fields) (ap is_some it.done)))
 
 gone_report : (request : ℕ) (word : Word) (fields : List Field) → SaysGone request word fields → reports_of request word fields ≡ true
 gone_report request word fields it =
-    or_left (is_some (done_in request word fields) || says_gone request word fields) (says_kept request word fields)
-    (or_right (is_some (done_in request word fields)) (says_gone request word fields) it.gone)
+    or_left (is_some (done_in request word fields) || says_gone request word fields || says_kept request word fields) (says_moved request word fields)
+    (or_left (is_some (done_in request word fields) || says_gone request word fields) (says_kept request word fields)
+    (or_right (is_some (done_in request word fields)) (says_gone request word fields) it.gone))
 
 kept_report : (request : ℕ) (word : Word) (fields : List Field) → SaysKept request word fields → reports_of request word fields ≡ true
 kept_report request word fields it =
-    or_right (is_some (done_in request word fields) || says_gone request word fields) (says_kept request word fields) it.kept
+    or_left (is_some (done_in request word fields) || says_gone request word fields || says_kept request word fields) (says_moved request word fields)
+    (or_right (is_some (done_in request word fields) || says_gone request word fields) (says_kept request word fields) it.kept)
+
+moved_report : (request : ℕ) (word : Word) (fields : List Field) → SaysMoved request word fields → reports_of request word fields ≡ true
+moved_report request word fields it =
+    or_right (is_some (done_in request word fields) || says_gone request word fields || says_kept request word fields) (says_moved request word fields) it.moved
 
 count_first : (request : ℕ) (line : Line) (lines : List Line) → report_count (line ∷ lines) request ≡ cond (reports_of request line.word line.fields) 1 0 + report_count lines request
 count_first request line lines = sum_by-cons (λ (it : Line). cond (reports_of request it.word it.fields) 1 0) line lines
@@ -220,9 +269,10 @@ record Quiet (lines : List Line) (request : ℕ) : Type 0 where
   done : done_of lines request ≡ None
   gone : say.is_gone lines request ≡ false
   kept : is_kept lines request ≡ false
+  moved : say.is_moved lines request ≡ false
 
 quiet : (lines : List Line) (request : ℕ) → AreFormed lines → report_count lines request ≡ 0 → Quiet lines request
-quiet [] request formed none = record { outcome = λ place before. refl; done = refl; gone = refl; kept = refl }
+quiet [] request formed none = record { outcome = λ place before. refl; done = refl; gone = refl; kept = refl; moved = refl }
 quiet (line ∷ lines) request formed none = elim (effect request line.word line.fields formed.0) [
   | inl it ↦
       let rest : Quiet lines request = quiet lines request formed.1 (omega (arith, none, none_first request line lines (no_report request line.word line.fields it))) in
@@ -231,15 +281,18 @@ quiet (line ∷ lines) request formed none = elim (effect request line.word line
         done = ap (λ first. or_else first (done_of lines request)) it.done ∙ rest.done;
         gone = or_from (says_gone request line.word line.fields) (say.is_gone lines request) it.gone rest.gone;
         kept = or_from (says_kept request line.word line.fields) (is_kept lines request) it.kept rest.kept;
+        moved = or_from (says_moved request line.word line.fields) (say.is_moved lines request) it.moved rest.moved;
       }
   | inr (inl it) ↦ absurd (omega (arith, none, one_first request line lines (done_report request line.word line.fields it)))
   | inr (inr (inl it)) ↦ absurd (omega (arith, none, one_first request line lines (gone_report request line.word line.fields it)))
-  | inr (inr (inr it)) ↦ absurd (omega (arith, none, one_first request line lines (kept_report request line.word line.fields it)))
+  | inr (inr (inr (inl it))) ↦ absurd (omega (arith, none, one_first request line lines (kept_report request line.word line.fields it)))
+  | inr (inr (inr (inr it))) ↦ absurd (omega (arith, none, one_first request line lines (moved_report request line.word line.fields it)))
 ]
 
 record Says (whole lines : List Line) (request : ℕ) (outcome : Outcome) : Type 0 where
   done : message_by whole outcome ≡ done_of lines request
   gone : code.is_gone outcome ≡ say.is_gone lines request
+  moved : code.is_moved outcome ≡ say.is_moved lines request
   settled : code.is_settled outcome ≡ say.is_settled lines request
 
 settle : (a b : Bool) (c : Option Message) (a' b' : Bool) (c' : Option Message) → a ≡ a' → b ≡ b' → c ≡ c' → (a || b || is_some c) ≡ (a' || b' || is_some c')
@@ -254,6 +307,7 @@ module _ (whole : List Line) (request : ℕ) (line : Line) (lines : List Line) w
   says_rest outcome it rest = record {
     done = rest.done ∙ sym (ap (λ first. or_else first (done_of lines request)) it.done);
     gone = rest.gone ∙ sym (ap (λ first. first || say.is_gone lines request) it.gone);
+    moved = rest.moved ∙ sym (ap (λ first. first || say.is_moved lines request) it.moved);
     settled = rest.settled ∙ sym (settle (say.is_gone (line ∷ lines) request) (is_kept (line ∷ lines) request) (done_of (line ∷ lines) request)
         (say.is_gone lines request) (is_kept lines request) (done_of lines request)
         (ap (λ first. first || say.is_gone lines request) it.gone)
@@ -265,6 +319,7 @@ module _ (whole : List Line) (request : ℕ) (line : Line) (lines : List Line) w
   says_done place fields it none = record {
     done = ap message_after fields ∙ it.after ∙ sym (ap (λ first. or_else first (done_of lines request)) it.done);
     gone = sym (or_from (says_gone request line.word line.fields) (say.is_gone lines request) it.gone none.gone);
+    moved = sym (or_from (says_moved request line.word line.fields) (say.is_moved lines request) it.moved none.moved);
     settled = sym (or_right (say.is_gone (line ∷ lines) request || is_kept (line ∷ lines) request) (is_some (done_of (line ∷ lines) request))
         (ap (λ first. is_some (or_else first (done_of lines request))) it.done));
   }
@@ -273,6 +328,7 @@ module _ (whole : List Line) (request : ℕ) (line : Line) (lines : List Line) w
   says_gone_first it none = record {
     done = sym (ap (λ first. or_else first (done_of lines request)) it.done ∙ none.done);
     gone = sym (or_left (says_gone request line.word line.fields) (say.is_gone lines request) it.gone);
+    moved = sym (or_from (says_moved request line.word line.fields) (say.is_moved lines request) it.moved none.moved);
     settled = sym (or_left (say.is_gone (line ∷ lines) request || is_kept (line ∷ lines) request) (is_some (done_of (line ∷ lines) request))
         (or_left (say.is_gone (line ∷ lines) request) (is_kept (line ∷ lines) request)
         (or_left (says_gone request line.word line.fields) (say.is_gone lines request) it.gone)));
@@ -282,20 +338,33 @@ module _ (whole : List Line) (request : ℕ) (line : Line) (lines : List Line) w
   says_kept_first it none = record {
     done = sym (ap (λ first. or_else first (done_of lines request)) it.done ∙ none.done);
     gone = sym (or_from (says_gone request line.word line.fields) (say.is_gone lines request) it.gone none.gone);
+    moved = sym (or_from (says_moved request line.word line.fields) (say.is_moved lines request) it.moved none.moved);
     settled = sym (or_left (say.is_gone (line ∷ lines) request || is_kept (line ∷ lines) request) (is_some (done_of (line ∷ lines) request))
         (or_right (say.is_gone (line ∷ lines) request) (is_kept (line ∷ lines) request)
         (or_left (says_kept request line.word line.fields) (is_kept lines request) it.kept)));
+  }
+
+  says_moved_first : SaysMoved request line.word line.fields → Quiet lines request → Says whole (line ∷ lines) request Moved
+  says_moved_first it none = record {
+    done = sym (ap (λ first. or_else first (done_of lines request)) it.done ∙ none.done);
+    gone = sym (or_from (says_gone request line.word line.fields) (say.is_gone lines request) it.gone none.gone);
+    moved = sym (or_left (says_moved request line.word line.fields) (say.is_moved lines request) it.moved);
+    settled = sym (settle (say.is_gone (line ∷ lines) request) (is_kept (line ∷ lines) request) (done_of (line ∷ lines) request) false false None
+        (or_from (says_gone request line.word line.fields) (say.is_gone lines request) it.gone none.gone)
+        (or_from (says_kept request line.word line.fields) (is_kept lines request) it.kept none.kept)
+        (ap (λ first. or_else first (done_of lines request)) it.done ∙ none.done));
   }
 
 same_says : (whole lines : List Line) (request : ℕ) (it now : Outcome) → now ≡ it → Says whole lines request it → Says whole lines request now
 same_says whole lines request it now e says = record {
   done = ap (message_by whole) e ∙ says.done;
   gone = ap code.is_gone e ∙ says.gone;
+  moved = ap code.is_moved e ∙ says.moved;
   settled = ap code.is_settled e ∙ says.settled;
 }
 
 says_all : (whole lines : List Line) (place request : ℕ) → lines ≡ drop place whole → AreFormed lines → report_count lines request ≤ 1 → Says whole lines request (outcome_after lines place request Unknown)
-says_all whole [] place request at formed once = record { done = refl; gone = refl; settled = refl }
+says_all whole [] place request at formed once = record { done = refl; gone = refl; moved = refl; settled = refl }
 says_all whole (line ∷ lines) place request at formed once =
     let here = drop_here whole place line lines at in
     let fields : fields_at whole place ≡ line.fields = ap fields_in_line here.0 in
@@ -316,12 +385,25 @@ says_all whole (line ∷ lines) place request at formed once =
           same_says whole (line ∷ lines) request Gone (outcome_after (line ∷ lines) place request Unknown)
           (after_first whole request line lines place Unknown Gone (it.outcome place Unknown) ∙ none.outcome (place + 1) Gone)
           (says_gone_first whole request line lines it none)
-      | inr (inr (inr it)) ↦
+      | inr (inr (inr (inl it))) ↦
           let none : Quiet lines request = quiet lines request formed.1 (omega (arith, once, one_first request line lines (kept_report request line.word line.fields it))) in
           same_says whole (line ∷ lines) request Kept (outcome_after (line ∷ lines) place request Unknown)
           (after_first whole request line lines place Unknown Kept (it.outcome place Unknown) ∙ none.outcome (place + 1) Kept)
           (says_kept_first whole request line lines it none)
+      | inr (inr (inr (inr it))) ↦
+          let none : Quiet lines request = quiet lines request formed.1 (omega (arith, once, one_first request line lines (moved_report request line.word line.fields it))) in
+          same_says whole (line ∷ lines) request Moved (outcome_after (line ∷ lines) place request Unknown)
+          (after_first whole request line lines place Unknown Moved (it.outcome place Unknown) ∙ none.outcome (place + 1) Moved)
+          (says_moved_first whole request line lines it none)
     ]
+
+-- waits leave out what is gone, and what is moved
+either_out : (outcome : Outcome) (gone moved : Bool) → code.is_gone outcome ≡ gone → code.is_moved outcome ≡ moved → code.is_left_out outcome ≡ (gone || moved)
+either_out Gone gone moved e f = ap (λ b. b || moved) e
+either_out Moved gone moved e f = ap (λ b. code.is_gone Moved || b) f ∙ ap (λ b. b || moved) e
+either_out Unknown gone moved e f = ap (λ b. code.is_gone Unknown || b) f ∙ ap (λ b. b || moved) e
+either_out (Done line) gone moved e f = ap (λ b. code.is_gone (Done line) || b) f ∙ ap (λ b. b || moved) e
+either_out Kept gone moved e f = ap (λ b. code.is_gone Kept || b) f ∙ ap (λ b. b || moved) e
 
 pub tells_all : (lines : List Line) (place : ℕ) (it : Outcomes) → length lines ≤ place → AreReadable lines → ((request : ℕ) → outcome_after (drop place lines) place request (outcome_at it request) ≡ outcome_after lines 0 request Unknown) → Tells lines it
 tells_all lines place it past readable kept =
@@ -332,6 +414,8 @@ tells_all lines place it past readable kept =
     record {
       done = λ request. (all request).done;
       gone = λ request. (all request).gone;
+      moved = λ request. (all request).moved;
+      left_out = λ request. either_out (outcome_at it request) (say.is_gone lines request) (say.is_moved lines request) (all request).gone (all request).moved;
       settled = λ request. (all request).settled;
     }
 
@@ -339,6 +423,8 @@ pub tells_none : (it : Outcomes) → ((request : ℕ) → outcome_at it request 
 tells_none it unknown = record {
   done = λ request. ap (message_by []) (unknown request);
   gone = λ request. ap code.is_gone (unknown request);
+  moved = λ request. ap code.is_moved (unknown request);
+  left_out = λ request. ap code.is_left_out (unknown request);
   settled = λ request. ap code.is_settled (unknown request);
 }
 
@@ -347,16 +433,16 @@ tells_none it unknown = record {
 module _ (lines : List Line) (it : Standing) (told : Tells lines it.outcomes) where
   pub ids_told : (fields : List Field) → AllStandFor lines it (naturals_in fields) → map Own (ids_in it fields) ≡ ids_of lines (naturals_in fields)
   ids_told [] stand = refl
-  ids_told (Natural request ∷ fields) stand = elim (cases_Bool (say.is_gone lines request)) [
+  ids_told (Natural request ∷ fields) stand = elim (cases_Bool (say.is_left_out lines request)) [
     | inl holds ↦
-        ap (map Own) (cond-true (code.is_gone (outcome_at it.outcomes request)) (ids_in it fields) (id_in it request ∷ ids_in it fields) (told.gone request ∙ holds))
+        ap (map Own) (cond-true (code.is_left_out (outcome_at it.outcomes request)) (ids_in it fields) (id_in it request ∷ ids_in it fields) (told.left_out request ∙ holds))
         ∙ ids_told fields stand.1
-        ∙ sym (ap (map (id_of lines)) (cond-false (not (say.is_gone lines request)) (request ∷ filter (λ one. not (say.is_gone lines one)) (naturals_in fields)) (filter (λ one. not (say.is_gone lines one)) (naturals_in fields)) (ap not holds)))
+        ∙ sym (ap (map (id_of lines)) (cond-false (not (say.is_left_out lines request)) (request ∷ filter (λ one. not (say.is_left_out lines one)) (naturals_in fields)) (filter (λ one. not (say.is_left_out lines one)) (naturals_in fields)) (ap not holds)))
     | inr fails ↦
-        ap (map Own) (cond-false (code.is_gone (outcome_at it.outcomes request)) (ids_in it fields) (id_in it request ∷ ids_in it fields) (told.gone request ∙ fails))
+        ap (map Own) (cond-false (code.is_left_out (outcome_at it.outcomes request)) (ids_in it fields) (id_in it request ∷ ids_in it fields) (told.left_out request ∙ fails))
         ∙ ap (λ one. one ∷ map Own (ids_in it fields)) stand.0
         ∙ ap (λ others. id_of lines request ∷ others) (ids_told fields stand.1)
-        ∙ sym (ap (map (id_of lines)) (cond-true (not (say.is_gone lines request)) (request ∷ filter (λ one. not (say.is_gone lines one)) (naturals_in fields)) (filter (λ one. not (say.is_gone lines one)) (naturals_in fields)) (ap not fails)))
+        ∙ sym (ap (map (id_of lines)) (cond-true (not (say.is_left_out lines request)) (request ∷ filter (λ one. not (say.is_left_out lines one)) (naturals_in fields)) (filter (λ one. not (say.is_left_out lines one)) (naturals_in fields)) (ap not fails)))
   ]
   ids_told (Signed number ∷ fields) stand = ids_told fields stand
   ids_told (Null ∷ fields) stand = ids_told fields stand

@@ -6,7 +6,7 @@ use Rattle.mpicall.specs.declared.call.Call.TheVariants.{Open, Finalize}
 use Rattle.journals.specs.Known.{report_of, requests_in}
 use Rattle.journals.specs.Lines.{Line}
 use Rattle.journals.specs.declared.word.ReportWord.TheVariants as report
-use Rattle.closing.specs.Called.{Called, Sends, StartsSend, Receives, StartsReceive, Exchanges, StartsExchange, Probes, ProbesMatching, ReceivesMatched, StartsMatched, Waits, Tests, WaitsAny, WaitsSome, Cancels, FreesRequest, Collects, StartsCollective, Duplicates, StartsDuplicate, Splits, Makes, MakesOfGroup, FreesComm, Nothing, Finalizes, Exits, Aborts, Fills, Stops}
+use Rattle.closing.specs.Called.{Called, Sends, StartsSend, Receives, StartsReceive, Exchanges, StartsExchange, Probes, ProbesMatching, ReceivesMatched, StartsMatched, Waits, Tests, WaitsAny, WaitsSome, Cancels, FreesRequest, Collects, StartsCollective, Duplicates, StartsDuplicate, Splits, Makes, MakesOfGroup, FreesComm, Nothing, Finalizes, Exits, Aborts, Fills, Stops, Cuts}
 use Rattle.closing.specs.Endings.{message_at, number_at, why_at}
 use Rattle.closing.specs.Entries.{Run, Placed}
 use Rattle.closing.specs.Entry.{Choice, is_past, steps_of}
@@ -99,6 +99,7 @@ module _ (choice : Choice) (placed : Placed) where
   unsure_starts wanted Aborts = tt
   unsure_starts wanted Fills = tt
   unsure_starts wanted Stops = tt
+  unsure_starts wanted Cuts = tt
 
   waits_start : (records : List Written) (requests : List ℕ) (outcome : Outcome) → waits_by choice records placed requests ≡ Some outcome → IsSunk outcome
   waits_start records requests outcome e = by_bool (is_past choice.calls placed || not (name_sink records placed requests)) e
@@ -161,6 +162,7 @@ module _ (choice : Choice) (placed : Placed) where
   call_starts run records Aborts outcome e = wanted_start records (option_and_then (wanted_at placed) (number_at run placed)) outcome e
   call_starts run records Fills outcome e = wanted_start records (option_and_then (wanted_at placed) (number_at run placed)) outcome e
   call_starts run records Stops outcome e = wanted_start records (option_and_then (wanted_at placed) (number_at run placed)) outcome e
+  call_starts run records Cuts outcome e = wanted_start records (option_and_then (wanted_at placed) (number_at run placed)) outcome e
 
 pub if_some : (b : Bool) (it : Option Outcome) (outcome : Outcome) → (if b then it else None) ≡ Some outcome → it ≡ Some outcome
 if_some true it outcome e = e

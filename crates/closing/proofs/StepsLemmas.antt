@@ -14,7 +14,7 @@ use Rattle.closing.specs.declared.list.TheConstants.{MOST_RECORDS}
 use Rattle.closing.specs.declared.stop.Stop.{Stop}
 use Rattle.closing.specs.declared.stop.Stop.TheVariants.{Left, Memory}
 use Rattle.closing.specs.declared.why.Why.{Why}
-use Rattle.closing.specs.declared.why.Why.TheVariants.{TooLong, NeverCameBack, NeverReported, Failed, NoNumber, CannotBe, Stopped, Aborted, Full, NoJournal, NotJudged}
+use Rattle.closing.specs.declared.why.Why.TheVariants.{TooLong, NeverCameBack, NeverReported, Failed, NoNumber, CannotBe, Stopped, Aborted, Full, Cut, NoJournal, NotJudged}
 
 -- ---- A list that is too long stays so ----
 
@@ -72,6 +72,7 @@ still_cut A B (Left CannotBe) handed p q line it grown cut = cut
 still_cut A B (Left Stopped) handed p q line it grown cut = cut
 still_cut A B (Left Aborted) handed p q line it grown cut = cut
 still_cut A B (Left Full) handed p q line it grown cut = cut
+still_cut A B (Left Cut) handed p q line it grown cut = cut
 still_cut A B (Left NotJudged) handed p q line it grown cut = cut
 still_cut A B (Left NoJournal) handed p q line it grown cut = cut
 
@@ -95,5 +96,6 @@ ends_cut A B (Left CannotBe) handed p line why it cut = absurd cut
 ends_cut A B (Left Stopped) handed p line why it cut = absurd cut
 ends_cut A B (Left Aborted) handed p line why it cut = absurd cut
 ends_cut A B (Left Full) handed p line why it cut = absurd cut
+ends_cut A B (Left Cut) handed p line why it cut = absurd cut
 ends_cut A B (Left NotJudged) handed p line why it cut = absurd cut
 ends_cut A B (Left NoJournal) handed p line why it cut = absurd cut

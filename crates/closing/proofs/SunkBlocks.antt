@@ -37,7 +37,7 @@ use Rattle.closing.specs.declared.walk.sinks.Fate.TheVariants as fate
 use Rattle.closing.specs.declared.walk.sinks.Leaves.{Leaves}
 use Rattle.closing.specs.declared.walk.sinks.Wants.{Wants}
 use Rattle.closing.specs.declared.why.Why.{Why}
-use Rattle.closing.specs.declared.why.Why.TheVariants.{NeverCameBack, NeverReported, Failed, NoNumber, TooLong, CannotBe, Stopped, Aborted, Full, NoJournal, NotJudged}
+use Rattle.closing.specs.declared.why.Why.TheVariants.{NeverCameBack, NeverReported, Failed, NoNumber, TooLong, CannotBe, Stopped, Aborted, Full, Cut, NoJournal, NotJudged}
 use Rattle.closing.proofs.FollowLemmas.{both_left, peer_up}
 use Rattle.closing.proofs.SunkLemmas.{kept_plain, own_plain}
 use Rattle.closing.proofs.SunkSteps.{first_stops, kept_list, then_sink}
@@ -130,6 +130,7 @@ puts_sunk line came_back outcome pending idle steps (Err (Left CannotBe)) handed
 puts_sunk line came_back outcome pending idle steps (Err (Left Stopped)) handed progress new e put = absurd put
 puts_sunk line came_back outcome pending idle steps (Err (Left Aborted)) handed progress new e put = absurd put
 puts_sunk line came_back outcome pending idle steps (Err (Left Full)) handed progress new e put = absurd put
+puts_sunk line came_back outcome pending idle steps (Err (Left Cut)) handed progress new e put = absurd put
 puts_sunk line came_back outcome pending idle steps (Err (Left NotJudged)) handed progress new e put = absurd put
 puts_sunk line came_back outcome pending idle steps (Err (Left NoJournal)) handed progress new e put = absurd put
 
@@ -155,6 +156,7 @@ pends_sunk line came_back outcome pending idle steps (Err (Left CannotBe)) hande
 pends_sunk line came_back outcome pending idle steps (Err (Left Stopped)) handed progress new e back put = absurd put
 pends_sunk line came_back outcome pending idle steps (Err (Left Aborted)) handed progress new e back put = absurd put
 pends_sunk line came_back outcome pending idle steps (Err (Left Full)) handed progress new e back put = absurd put
+pends_sunk line came_back outcome pending idle steps (Err (Left Cut)) handed progress new e back put = absurd put
 pends_sunk line came_back outcome pending idle steps (Err (Left NotJudged)) handed progress new e back put = absurd put
 pends_sunk line came_back outcome pending idle steps (Err (Left NoJournal)) handed progress new e back put = absurd put
 
@@ -174,6 +176,7 @@ pends_message line steps pending wanted (Err (Left CannotBe)) handed progress ol
 pends_message line steps pending wanted (Err (Left Stopped)) handed progress old new put e is = put
 pends_message line steps pending wanted (Err (Left Aborted)) handed progress old new put e is = put
 pends_message line steps pending wanted (Err (Left Full)) handed progress old new put e is = put
+pends_message line steps pending wanted (Err (Left Cut)) handed progress old new put e is = put
 pends_message line steps pending wanted (Err (Left NotJudged)) handed progress old new put e is = put
 pends_message line steps pending wanted (Err (Left NoJournal)) handed progress old new put e is = put
 
@@ -364,6 +367,7 @@ none_cut A (Left CannotBe) line steps handed progress list new stands cut = cut
 none_cut A (Left Stopped) line steps handed progress list new stands cut = cut
 none_cut A (Left Aborted) line steps handed progress list new stands cut = cut
 none_cut A (Left Full) line steps handed progress list new stands cut = cut
+none_cut A (Left Cut) line steps handed progress list new stands cut = cut
 none_cut A (Left NotJudged) line steps handed progress list new stands cut = cut
 none_cut A (Left NoJournal) line steps handed progress list new stands cut = cut
 

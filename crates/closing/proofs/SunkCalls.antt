@@ -2,16 +2,17 @@
 use Rattle.std.proofs.Common.{◌≡◌, refl, sym, ◌∙◌, ap, subst, ℕ, Bool, true, false, Option, Some, None, Result, Ok, List}
 use Rattle.std.specs.Prelude.{is_some, option_map, unwrap_or, ◌&&◌, if◌then◌else◌}
 use Rattle.mpicall.specs.declared.call.Call.TheVariants.{Open}
-use Rattle.closing.specs.Called.{Called}
+use Rattle.closing.specs.Called.{Awaited, Called, Sent}
 use Rattle.closing.specs.Entries.{Run, Placed}
 use Rattle.closing.specs.Entry.{Choice}
 use Rattle.closing.specs.Fit.{AllFit, steps_in}
 use Rattle.closing.specs.Pending.{unknown}
+use Rattle.closing.specs.Reported.{done_of, message_of}
 use Rattle.closing.specs.Recording.{ended, outcome_in, outcome_of}
 use Rattle.closing.specs.Sinks.{Outcome, outcome_by_sinks}
 use Rattle.closing.specs.Steps.{Progress, Written}
 use Rattle.closing.specs.inner.Lists.{Handed, Stands}
-use Rattle.closing.specs.inner.Sunk.{TakesSunk, idle_on, pending_on, steps_if, sunk_on}
+use Rattle.closing.specs.inner.Sunk.{TakesSunk, idle_on, pending_on, starts_exchange_sunk, starts_receive_sunk, steps_if, sunk_on}
 use Rattle.closing.specs.inner.Taken.{IsBack, IsKept, IsTakenBy, chooses_none, pending_if, sinks_stand}
 use Rattle.closing.specs.inner.Views.{called_view}
 use Rattle.closing.specs.inner.Walks.{Spot, spot_of}
@@ -37,6 +38,19 @@ TakesCalled spot came_back it result old new =
 pub called_as : (spot : Spot) (came_back : Bool) (it call : CalledCode) (result : Result Bool Stop) (old new : Walk) → it ≡ call
     → TakesCalled spot came_back (called_view call) result old new → TakesCalled spot came_back (called_view it) result old new
 called_as spot came_back it call result old new e takes = subst (λ v. TakesCalled spot came_back (called_view v) result old new) (sym e) takes
+
+-- what is awaited instead
+pub sunk_receive_as : (spot : Spot) (came_back : Bool) (own : ℕ) (one other : Awaited) (result : Result Bool Stop) (old new : Walk) → one ≡ other
+    → TakesSunk spot.line came_back (starts_receive_sunk spot own one (message_of one (done_of spot.lines own))) (λ progress. unknown) (λ progress. unknown) result old new
+    → TakesSunk spot.line came_back (starts_receive_sunk spot own other (message_of other (done_of spot.lines own))) (λ progress. unknown) (λ progress. unknown) result old new
+sunk_receive_as spot came_back own one other result old new e takes =
+    subst (λ it. TakesSunk spot.line came_back (starts_receive_sunk spot own it (message_of it (done_of spot.lines own))) (λ progress. unknown) (λ progress. unknown) result old new) e takes
+
+pub sunk_exchange_as : (spot : Spot) (came_back : Bool) (own received : ℕ) (sent : Sent) (one other : Awaited) (result : Result Bool Stop) (old new : Walk) → one ≡ other
+    → TakesSunk spot.line came_back (starts_exchange_sunk spot own received sent one (message_of one (done_of spot.lines received))) (λ progress. unknown) (λ progress. unknown) result old new
+    → TakesSunk spot.line came_back (starts_exchange_sunk spot own received sent other (message_of other (done_of spot.lines received))) (λ progress. unknown) (λ progress. unknown) result old new
+sunk_exchange_as spot came_back own received sent one other result old new e takes =
+    subst (λ it. TakesSunk spot.line came_back (starts_exchange_sunk spot own received sent it (message_of it (done_of spot.lines received))) (λ progress. unknown) (λ progress. unknown) result old new) e takes
 
 -- a call that neither receives, probes nor waits
 pub record IsOther (spot : Spot) (came_back : Bool) (it : Called) : Type 0 where

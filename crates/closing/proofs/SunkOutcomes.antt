@@ -8,12 +8,12 @@ use Rattle.journals.specs.Known.{report_of, requests_in, has_report}
 use Rattle.journals.specs.Journal.{Journal}
 use Rattle.journals.specs.Entries.{Entry}
 use Rattle.journals.specs.declared.word.ReportWord.TheVariants as report
-use Rattle.closing.specs.Called.{Called, Sent, Awaited, Sends, StartsSend, Receives, StartsReceive, Exchanges, StartsExchange, Probes, ProbesMatching, ReceivesMatched, StartsMatched, Waits, Tests, WaitsAny, WaitsSome, Cancels, FreesRequest, Collects, StartsCollective, Duplicates, Splits, Makes, StartsDuplicate, MakesOfGroup, FreesComm, Nothing, Finalizes, Exits, Aborts, Fills, Stops}
+use Rattle.closing.specs.Called.{Called, Sent, Awaited, Sends, StartsSend, Receives, StartsReceive, Exchanges, StartsExchange, Probes, ProbesMatching, ReceivesMatched, StartsMatched, Waits, Tests, WaitsAny, WaitsSome, Cancels, FreesRequest, Collects, StartsCollective, Duplicates, Splits, Makes, StartsDuplicate, MakesOfGroup, FreesComm, Nothing, Finalizes, Exits, Aborts, Fills, Stops, Cuts}
 use Rattle.closing.specs.Endings.{awaited_can_be, first_of, number_at, sent_can_be, size_at}
 use Rattle.closing.specs.Entries.{Run, Placed}
 use Rattle.closing.specs.Entry.{Choice, is_past, start_send}
 use Rattle.closing.specs.RankComms.{RankComms}
-use Rattle.closing.specs.Reported.{Message, done_of, got_in, is_gone, message_can_be, message_of, peer_can_be, tag_can_be}
+use Rattle.closing.specs.Reported.{Message, done_of, got_in, is_gone, message_can_be, message_of, peer_can_be, tag_can_be, unless_moved}
 use Rattle.closing.specs.Sinks.{Outcome, GoesOn, Ends, ends, is_met, is_nobody, outcome_by_sinks, takes_by, wanted_by, waits_by}
 use Rattle.closing.specs.Steps.{Step, Written}
 use Rattle.closing.specs.inner.Sunk.{blocks_on, exchange_steps, fate_by, is_from_nobody, is_sink_by, outcome_by_fate, sink_step, sunk_on, waits_sunk, wants_both, wants_in}
@@ -247,9 +247,10 @@ module _ (run : Run) (choice : Choice) (records : List Written) (rank : ℕ) (jo
       ∙ and_then_same _ _ (wants_both size n sent awaited message)
       (λ wanted. fate_same message (is_met records wanted) came_back (is_past choice.calls (at it)) (both wanted) (both wanted))
 
-  of_start : (request : ℕ) (awaited : Awaited) → failed ≡ false → Goal (StartsReceive request awaited)
-  of_start request awaited e =
-      let it = StartsReceive request awaited in
+  of_start : (request : ℕ) (asked : Awaited) → failed ≡ false → Goal (StartsReceive request asked)
+  of_start request asked e =
+      let it = StartsReceive request asked in
+      let awaited = unless_moved journal.lines request asked in
       let done = done_of journal.lines request in
       let message = message_of awaited done in
       let size = size_at run (at it) in
@@ -261,9 +262,10 @@ module _ (run : Run) (choice : Choice) (records : List Written) (rank : ℕ) (jo
       ∙ wants_all size n awaited message gone failed _ e
       ∙ sink_same message gone true (wants_in size n awaited message) (λ wanted. sink_step (Some request) wanted (is_some message) ∷ []) (is_met records)
 
-  of_starts : (request received : ℕ) (sent : Sent) (awaited : Awaited) → failed ≡ false → Goal (StartsExchange request received sent awaited)
-  of_starts request received sent awaited e =
-      let it = StartsExchange request received sent awaited in
+  of_starts : (request received : ℕ) (sent : Sent) (asked : Awaited) → failed ≡ false → Goal (StartsExchange request received sent asked)
+  of_starts request received sent asked e =
+      let it = StartsExchange request received sent asked in
+      let awaited = unless_moved journal.lines received asked in
       let done = done_of journal.lines received in
       let message = message_of awaited done in
       let size = size_at run (at it) in
@@ -308,6 +310,7 @@ module _ (run : Run) (choice : Choice) (records : List Written) (rank : ℕ) (jo
   of_call Nothing e = none_of {A = ℕ} {B = Wanted} {C = Outcome} _ (takes_by choice records (at Nothing)) (number_at run (at Nothing))
   of_call Finalizes e = none_of {A = ℕ} {B = Wanted} {C = Outcome} _ (takes_by choice records (at Finalizes)) (number_at run (at Finalizes))
   of_call Exits e = none_of {A = ℕ} {B = Wanted} {C = Outcome} _ (takes_by choice records (at Exits)) (number_at run (at Exits))
+  of_call Cuts e = none_of {A = ℕ} {B = Wanted} {C = Outcome} _ (takes_by choice records (at Cuts)) (number_at run (at Cuts))
 
 pub sunk_is : (run : Run) (choice : Choice) (records : List Written) (it : Placed) → has_report report.Failed it.entry ≡ false
     → outcome_by_sinks run choice records it ≡ sunk_on (spot_of run choice it) it.came_back records it.called

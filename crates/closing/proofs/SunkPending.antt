@@ -9,7 +9,7 @@ use Rattle.journals.specs.Journal.{Journal}
 use Rattle.journals.specs.Lines.{Line}
 use Rattle.journals.specs.Entries.{Entry}
 use Rattle.journals.specs.declared.word.ReportWord.TheVariants as report
-use Rattle.closing.specs.Called.{Called, Sent, Awaited, Sends, StartsSend, Receives, StartsReceive, Exchanges, StartsExchange, Probes, ProbesMatching, ReceivesMatched, StartsMatched, Waits, Tests, WaitsAny, WaitsSome, Cancels, FreesRequest, Collects, StartsCollective, Duplicates, Splits, Makes, StartsDuplicate, MakesOfGroup, FreesComm, Nothing, Finalizes, Exits, Aborts, Fills, Stops}
+use Rattle.closing.specs.Called.{Called, Sent, Awaited, Sends, StartsSend, Receives, StartsReceive, Exchanges, StartsExchange, Probes, ProbesMatching, ReceivesMatched, StartsMatched, Waits, Tests, WaitsAny, WaitsSome, Cancels, FreesRequest, Collects, StartsCollective, Duplicates, Splits, Makes, StartsDuplicate, MakesOfGroup, FreesComm, Nothing, Finalizes, Exits, Aborts, Fills, Stops, Cuts}
 use Rattle.closing.specs.Endings.{number_at, sent_can_be, size_at}
 use Rattle.closing.specs.Entries.{Run, Placed}
 use Rattle.closing.specs.Entry.{Choice, is_past}
@@ -33,7 +33,7 @@ use Rattle.closing.specs.declared.walk.Walk.{Walk}
 use Rattle.closing.specs.declared.walk.sinks.Leaves.{Leaves}
 use Rattle.closing.specs.declared.walk.sinks.Leaves.TheVariants as leaves
 use Rattle.closing.specs.declared.why.Why.{Why}
-use Rattle.closing.specs.declared.why.Why.TheVariants.{NeverCameBack, NeverReported, Failed, NoNumber, TooLong, CannotBe, Stopped, Aborted, Full, NoJournal, NotJudged}
+use Rattle.closing.specs.declared.why.Why.TheVariants.{NeverCameBack, NeverReported, Failed, NoNumber, TooLong, CannotBe, Stopped, Aborted, Full, Cut, NoJournal, NotJudged}
 use Rattle.closing.proofs.SunkOutcomes.{sunk_is}
 
 -- ---- What is wanted ----
@@ -221,6 +221,7 @@ module _ (run : Run) (choice : Choice) (progress : Progress) (rank : ℕ) (journ
   of_call Aborts steps back is = refl
   of_call Fills steps back is = refl
   of_call Stops steps back is = refl
+  of_call Cuts steps back is = refl
 
 by_back : (run : Run) (choice : Choice) (progress : Progress) (rank : ℕ) (journal : Journal) (line : ℕ) (entry : Entry) (comms : RankComms) (came_back : Bool) (it : Called) (steps : List Step)
     → IsBack (placed rank journal line entry comms came_back it)
@@ -244,6 +245,7 @@ pending_is run choice progress it steps CannotBe back is = refl
 pending_is run choice progress it steps Stopped back is = refl
 pending_is run choice progress it steps Aborted back is = refl
 pending_is run choice progress it steps Full back is = refl
+pending_is run choice progress it steps Cut back is = refl
 pending_is run choice progress it steps NoJournal back is = refl
 pending_is run choice progress it steps NotJudged back is = refl
 
@@ -305,6 +307,7 @@ module _ (run : Run) (choice : Choice) (progress : Progress) (rank : ℕ) (journ
   idle_call Aborts = refl
   idle_call Fills = refl
   idle_call Stops = refl
+  idle_call Cuts = refl
 
 idle_is : (run : Run) (choice : Choice) (progress : Progress) (it : Placed) → choice.unreported ≡ unreported.Sinks
     → idle_on (spot_of run choice it) it.came_back it.called progress ≡ pending_kept run choice progress it
@@ -343,5 +346,6 @@ module _ (run : Run) (choice : Choice) (it : Placed) (handed : Handed) (progress
   taken_by (Err (Left Stopped)) h = record { steps = h.steps; unreported = sinks; is = is ∙ h.is; stands = h.stands; sinks = h.sinks; pending = h.waits; left_out = h.left_out }
   taken_by (Err (Left Aborted)) h = record { steps = h.steps; unreported = sinks; is = is ∙ h.is; stands = h.stands; sinks = h.sinks; pending = h.waits; left_out = h.left_out }
   taken_by (Err (Left Full)) h = record { steps = h.steps; unreported = sinks; is = is ∙ h.is; stands = h.stands; sinks = h.sinks; pending = h.waits; left_out = h.left_out }
+  taken_by (Err (Left Cut)) h = record { steps = h.steps; unreported = sinks; is = is ∙ h.is; stands = h.stands; sinks = h.sinks; pending = h.waits; left_out = h.left_out }
   taken_by (Err (Left NotJudged)) h = record { steps = h.steps; unreported = sinks; is = is ∙ h.is; stands = h.stands; sinks = h.sinks; pending = h.waits; left_out = h.left_out }
   taken_by (Err (Left NoJournal)) h = record { steps = h.steps; unreported = sinks; is = is ∙ h.is; stands = h.stands; sinks = h.sinks; pending = h.waits; left_out = h.left_out }

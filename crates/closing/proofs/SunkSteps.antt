@@ -13,7 +13,7 @@ use Rattle.closing.specs.declared.pending.Wanted.{Wanted}
 use Rattle.closing.specs.declared.stop.Stop.{Stop}
 use Rattle.closing.specs.declared.stop.Stop.TheVariants.{Left, Memory}
 use Rattle.closing.specs.declared.walk.Walk.{Walk}
-use Rattle.closing.specs.declared.why.Why.TheVariants.{NeverCameBack, NeverReported, Failed, NoNumber, TooLong, CannotBe, Stopped, Aborted, Full, NoJournal, NotJudged}
+use Rattle.closing.specs.declared.why.Why.TheVariants.{NeverCameBack, NeverReported, Failed, NoNumber, TooLong, CannotBe, Stopped, Aborted, Full, Cut, NoJournal, NotJudged}
 use Rattle.closing.proofs.StepsLemmas.{cut_on}
 use Rattle.closing.proofs.SunkLemmas.{IsPlain, cut_same, full_before, kept_before, left_put, sinks_plain}
 
@@ -33,6 +33,7 @@ sink_cut A B (Left CannotBe) handed progress line own wanted is_known old new e 
 sink_cut A B (Left Stopped) handed progress line own wanted is_known old new e cut = cut
 sink_cut A B (Left Aborted) handed progress line own wanted is_known old new e cut = cut
 sink_cut A B (Left Full) handed progress line own wanted is_known old new e cut = cut
+sink_cut A B (Left Cut) handed progress line own wanted is_known old new e cut = cut
 sink_cut A B (Left NotJudged) handed progress line own wanted is_known old new e cut = cut
 sink_cut A B (Left NoJournal) handed progress line own wanted is_known old new e cut = cut
 
@@ -96,6 +97,7 @@ sink_stops (Left CannotBe) handed progress line own wanted is_known old new stan
 sink_stops (Left Stopped) handed progress line own wanted is_known old new stands kept same put = put
 sink_stops (Left Aborted) handed progress line own wanted is_known old new stands kept same put = put
 sink_stops (Left Full) handed progress line own wanted is_known old new stands kept same put = put
+sink_stops (Left Cut) handed progress line own wanted is_known old new stands kept same put = put
 sink_stops (Left NotJudged) handed progress line own wanted is_known old new stands kept same put = put
 sink_stops (Left NoJournal) handed progress line own wanted is_known old new stands kept same put = put
 
@@ -139,6 +141,7 @@ then_sink (Err (Left CannotBe)) handed progress line id call own wanted is_known
 then_sink (Err (Left Stopped)) handed progress line id call own wanted is_known new plain put = put
 then_sink (Err (Left Aborted)) handed progress line id call own wanted is_known new plain put = put
 then_sink (Err (Left Full)) handed progress line id call own wanted is_known new plain put = put
+then_sink (Err (Left Cut)) handed progress line id call own wanted is_known new plain put = put
 then_sink (Err (Left NotJudged)) handed progress line id call own wanted is_known new plain put = put
 then_sink (Err (Left NoJournal)) handed progress line id call own wanted is_known new plain put = put
 
@@ -170,6 +173,7 @@ first_stops A (Left CannotBe) handed progress line id call own wanted is_known o
 first_stops A (Left Stopped) handed progress line id call own wanted is_known old new stands kept same cut = cut
 first_stops A (Left Aborted) handed progress line id call own wanted is_known old new stands kept same cut = cut
 first_stops A (Left Full) handed progress line id call own wanted is_known old new stands kept same cut = cut
+first_stops A (Left Cut) handed progress line id call own wanted is_known old new stands kept same cut = cut
 first_stops A (Left NotJudged) handed progress line id call own wanted is_known old new stands kept same cut = cut
 first_stops A (Left NoJournal) handed progress line id call own wanted is_known old new stands kept same cut = cut
 
@@ -197,6 +201,7 @@ pends_cut pending (Left CannotBe) steps handed progress line new put = put
 pends_cut pending (Left Stopped) steps handed progress line new put = put
 pends_cut pending (Left Aborted) steps handed progress line new put = put
 pends_cut pending (Left Full) steps handed progress line new put = put
+pends_cut pending (Left Cut) steps handed progress line new put = put
 pends_cut pending (Left NotJudged) steps handed progress line new put = put
 pends_cut pending (Left NoJournal) steps handed progress line new put = put
 

@@ -11,7 +11,7 @@ use Rattle.journals.specs.declared.field.Field.TheVariants.{Natural, Signed, Nul
 use Rattle.closing.specs.Called.{naturals_in}
 use Rattle.closing.specs.Entry.{id_of, ids_of}
 use Rattle.closing.specs.Pending.{PendingCall, for_all, sinks_from, unknown, pending_said}
-use Rattle.closing.specs.Reported.{is_gone}
+use Rattle.closing.specs.Reported.{is_left_out}
 use Rattle.closing.specs.Sinks.{Outcome, ends, is_of, sink_for, sink_in}
 use Rattle.closing.specs.Steps.{Id, Progress, Written, number_in}
 use Rattle.closing.specs.Fit.{AllFit}
@@ -35,7 +35,7 @@ use Rattle.closing.specs.declared.stop.Stop.{Stop}
 use Rattle.closing.specs.declared.stop.Stop.TheVariants.{Left, Memory}
 use Rattle.closing.specs.declared.walk.Walk.{Walk}
 use Rattle.closing.specs.declared.why.Why.{Why}
-use Rattle.closing.specs.declared.why.Why.TheVariants.{NeverCameBack, NeverReported, Failed, NoNumber, TooLong, CannotBe, Stopped, Aborted, Full, NoJournal, NotJudged}
+use Rattle.closing.specs.declared.why.Why.TheVariants.{NeverCameBack, NeverReported, Failed, NoNumber, TooLong, CannotBe, Stopped, Aborted, Full, Cut, NoJournal, NotJudged}
 
 -- ---- One request after the other ----
 
@@ -76,22 +76,22 @@ names_none lines requests records it has none = sym (none_among records (ids_of 
 
 module _ (lines : List Line) (standing : Standing) (sinks : Sinks) (records : List Written) (tells : Tells lines standing.outcomes) (has : HasSinks records sinks) where
   sink_said : (request : ℕ) → StandsFor lines standing request
-      → sink_at standing sinks (Natural request) ≡ (if is_gone lines request then None else sink_for records (id_of lines request))
+      → sink_at standing sinks (Natural request) ≡ (if is_left_out lines request then None else sink_for records (id_of lines request))
   sink_said request stands =
-      ap (λ b. if b then None else named_in sinks (id_in standing request)) (tells.gone request)
-      ∙ ap (λ w. if is_gone lines request then None else w) (has.named (id_in standing request) ∙ ap (sink_for records) stands)
+      ap (λ b. if b then None else named_in sinks (id_in standing request)) (tells.left_out request)
+      ∙ ap (λ w. if is_left_out lines request then None else w) (has.named (id_in standing request) ∙ ap (sink_for records) stands)
 
   any_first : (gone : Bool) (id : Id) (ids : List Id) (rest : Bool) → rest ≡ list_any (λ id. is_some (sink_for records id)) ids
       → (is_some (if gone then None else sink_for records id) || rest) ≡ list_any (λ id. is_some (sink_for records id)) (if gone then ids else id ∷ ids)
   any_first true id ids rest e = e
   any_first false id ids rest e = ap (λ b. is_some (sink_for records id) || b) e
 
-  ids_first : (request : ℕ) (requests : List ℕ) (gone : Bool) → is_gone lines request ≡ gone
+  ids_first : (request : ℕ) (requests : List ℕ) (gone : Bool) → is_left_out lines request ≡ gone
       → (if gone then ids_of lines requests else id_of lines request ∷ ids_of lines requests) ≡ ids_of lines (request ∷ requests)
-  ids_first request requests gone e = by_gone gone ∙ ap (λ b. map (id_of lines) (cond (not b) (request ∷ filter (λ request. not (is_gone lines request)) requests) (filter (λ request. not (is_gone lines request)) requests))) (sym e)
+  ids_first request requests gone e = by_gone gone ∙ ap (λ b. map (id_of lines) (cond (not b) (request ∷ filter (λ request. not (is_left_out lines request)) requests) (filter (λ request. not (is_left_out lines request)) requests))) (sym e)
     where
       by_gone : (b : Bool) → (if b then ids_of lines requests else id_of lines request ∷ ids_of lines requests)
-          ≡ map (id_of lines) (cond (not b) (request ∷ filter (λ request. not (is_gone lines request)) requests) (filter (λ request. not (is_gone lines request)) requests))
+          ≡ map (id_of lines) (cond (not b) (request ∷ filter (λ request. not (is_left_out lines request)) requests) (filter (λ request. not (is_left_out lines request)) requests))
       by_gone true = refl
       by_gone false = refl
 
@@ -100,8 +100,8 @@ module _ (lines : List Line) (standing : Standing) (sinks : Sinks) (records : Li
   names_said [] stand = refl
   names_said (Natural request ∷ fields) stand =
       ap (λ w. is_some w || list_any (λ field. is_some (sink_at standing sinks field)) fields) (sink_said request stand.0)
-      ∙ any_first (is_gone lines request) (id_of lines request) (ids_of lines (naturals_in fields)) _ (names_said fields stand.1)
-      ∙ ap (list_any (λ id. is_some (sink_for records id))) (ids_first request (naturals_in fields) (is_gone lines request) refl)
+      ∙ any_first (is_left_out lines request) (id_of lines request) (ids_of lines (naturals_in fields)) _ (names_said fields stand.1)
+      ∙ ap (list_any (λ id. is_some (sink_for records id))) (ids_first request (naturals_in fields) (is_left_out lines request) refl)
   names_said (Signed number ∷ fields) stand = names_said fields stand
   names_said (Null ∷ fields) stand = names_said fields stand
   names_said (Any ∷ fields) stand = names_said fields stand
@@ -130,10 +130,10 @@ item_or false wanted active = refl
 module _ (lines : List Line) (standing : Standing) (sinks : Sinks) (list : ListCode) (progress : Progress)
     (tells : Tells lines standing.outcomes) (has : HasSinks progress.records sinks) (owns : Owns progress.active list) where
   active_said : (request : ℕ) → StandsFor lines standing request
-      → active_at standing list (Natural request) ≡ (if is_gone lines request then None else option_map (λ number. item.Request number) (number_in progress.active (id_of lines request)))
+      → active_at standing list (Natural request) ≡ (if is_left_out lines request then None else option_map (λ number. item.Request number) (number_in progress.active (id_of lines request)))
   active_said request stands =
-      ap (λ b. if b then None else option_map (λ (active : Active). item.Request active.number) (get nat_eq list.active (id_in standing request))) (tells.gone request)
-      ∙ ap (λ o. if is_gone lines request then None else o)
+      ap (λ b. if b then None else option_map (λ (active : Active). item.Request active.number) (get nat_eq list.active (id_in standing request))) (tells.left_out request)
+      ∙ ap (λ o. if is_left_out lines request then None else o)
       (by_number (get nat_eq list.active (id_in standing request))
       ∙ ap (option_map (λ number. item.Request number)) (owns (id_in standing request) ∙ ap (number_in progress.active) stands))
 
@@ -141,8 +141,8 @@ module _ (lines : List Line) (standing : Standing) (sinks : Sinks) (list : ListC
   item_said request stands =
       ap (λ w. or_else (option_map (λ wanted. item.Message wanted) w) (active_at standing list (Natural request)))
       (sink_said lines standing sinks progress.records tells has request stands)
-      ∙ ap (or_else (option_map (λ wanted. item.Message wanted) (if is_gone lines request then None else sink_for progress.records (id_of lines request)))) (active_said request stands)
-      ∙ item_or (is_gone lines request) (sink_for progress.records (id_of lines request)) (option_map (λ number. item.Request number) (number_in progress.active (id_of lines request)))
+      ∙ ap (or_else (option_map (λ wanted. item.Message wanted) (if is_left_out lines request then None else sink_for progress.records (id_of lines request)))) (active_said request stands)
+      ∙ item_or (is_left_out lines request) (sink_for progress.records (id_of lines request)) (option_map (λ number. item.Request number) (number_in progress.active (id_of lines request)))
 
   pub items_said : (fields : List Field) → AllStandFor lines standing (naturals_in fields)
       → filter_map (item_at standing sinks list) fields ≡ filter_map (item_in lines progress) (naturals_in fields)
@@ -318,6 +318,7 @@ when_back CannotBe p q = refl
 when_back Stopped p q = refl
 when_back Aborted p q = refl
 when_back Full p q = refl
+when_back Cut p q = refl
 when_back NoJournal p q = refl
 when_back NotJudged p q = refl
 
@@ -340,6 +341,7 @@ sunk_back line outcome p q idle (Err (Left CannotBe)) handed progress walk h = e
 sunk_back line outcome p q idle (Err (Left Stopped)) handed progress walk h = ends_back line outcome p q Stopped handed progress walk h
 sunk_back line outcome p q idle (Err (Left Aborted)) handed progress walk h = ends_back line outcome p q Aborted handed progress walk h
 sunk_back line outcome p q idle (Err (Left Full)) handed progress walk h = ends_back line outcome p q Full handed progress walk h
+sunk_back line outcome p q idle (Err (Left Cut)) handed progress walk h = ends_back line outcome p q Cut handed progress walk h
 sunk_back line outcome p q idle (Err (Left NotJudged)) handed progress walk h = ends_back line outcome p q NotJudged handed progress walk h
 sunk_back line outcome p q idle (Err (Left NoJournal)) handed progress walk h = ends_back line outcome p q NoJournal handed progress walk h
 

@@ -7,15 +7,15 @@ use Rattle.mpicall.specs.declared.call.Kind.TheVariants as kind
 use Rattle.mpicall.specs.declared.call.Mode.TheVariants.{Standard}
 use Rattle.std.proofs.lemmas.List.{append-nil}
 use Rattle.journals.specs.Lines.{Line}
-use Rattle.closing.specs.Called.{Called, Sent, Sends, StartsSend, Receives, StartsReceive, Exchanges, StartsExchange, Probes, ProbesMatching, ReceivesMatched, StartsMatched, Waits, Tests, WaitsAny, WaitsSome, Cancels, Collects, StartsCollective, Duplicates, Splits, Makes, StartsDuplicate, MakesOfGroup}
-use Rattle.closing.specs.Reported.{Message as Said, done_of, is_gone, is_settled, message_of, root_can_be}
+use Rattle.closing.specs.Called.{Called, Awaited, Sent, Sends, StartsSend, Receives, StartsReceive, Exchanges, StartsExchange, Probes, ProbesMatching, ReceivesMatched, StartsMatched, Waits, Tests, WaitsAny, WaitsSome, Cancels, Collects, StartsCollective, Duplicates, Splits, Makes, StartsDuplicate, MakesOfGroup}
+use Rattle.closing.specs.Reported.{Message as Said, done_of, is_gone, is_settled, message_of, root_can_be, unless_moved}
 use Rattle.closing.specs.Steps.{Id, Own, Whole, ReceiveHalf, Step, Does, Starts, WaitsForAll, WaitsForOne, PutsOff, WaitsForLate}
 use Rattle.closing.specs.Endings.{awaited_can_be, sent_can_be}
 use Rattle.closing.specs.Entry.{Choice, exchange, ids_of, kind_of, probe, receive, send, start_collective, start_receive, start_send, unless_past, wait_for_all, wait_for_one}
 use Rattle.closing.specs.Sinks.{Outcome, GoesOn, Ends}
 use Rattle.closing.specs.inner.Standings.{message_for}
 use Rattle.closing.specs.inner.Views.{called_view}
-use Rattle.closing.specs.inner.Walks.{Spot, chosen_or_ends, collects_at, does_at, ends, exchanges_at, known_or_ends, makes_on, numbered, outcome_on, probes_at, receives_after, starts_at}
+use Rattle.closing.specs.inner.Walks.{Spot, chosen_or_ends, collects_at, does_at, ends, exchanges_at, known_or_ends, makes_on, numbered, outcome_on, probes_at, receives_after, starts_at, starts_exchange_on, starts_receive_on}
 use Rattle.closing.specs.Fit.{steps_in}
 use Rattle.closing.specs.inner.Walked.{LateCall, Meets, Takes, TakesCall, message_after, is_on_none, late_in}
 use Rattle.closing.specs.declared.called.Called.{Called as CalledCode}
@@ -124,15 +124,15 @@ no_late choice spot (Receives awaited) h =
     numbered_late (awaited_can_be spot.size (awaited, spot.got)) spot.number (λ comm. known_or_ends (message_of awaited spot.got) (λ it. does_at spot (receive comm it) (start_receive comm it)))
     (λ comm. known_late (message_of awaited spot.got) (λ it. does_at spot (receive comm it) (start_receive comm it)) (λ it. does_late spot (receive comm it) (start_receive comm it)))
 no_late choice spot (StartsReceive request awaited) h =
-    numbered_late (awaited_can_be spot.size (awaited, done_of spot.lines request)) spot.number (λ comm. receives_after [] spot comm request (message_of awaited (done_of spot.lines request)))
-    (λ comm. receives_late [] spot comm request (message_of awaited (done_of spot.lines request)) refl)
+    numbered_late (awaited_can_be spot.size (unless_moved spot.lines request awaited, done_of spot.lines request)) spot.number (λ comm. receives_after [] spot comm request (message_of (unless_moved spot.lines request awaited) (done_of spot.lines request)))
+    (λ comm. receives_late [] spot comm request (message_of (unless_moved spot.lines request awaited) (done_of spot.lines request)) refl)
 no_late choice spot (Exchanges sent awaited) h =
     numbered_late (sent_can_be spot.size sent && awaited_can_be spot.size (awaited, spot.got)) spot.number (λ comm. known_or_ends (message_of awaited spot.got) (exchanges_at spot comm sent))
     (λ comm. known_late (message_of awaited spot.got) (exchanges_at spot comm sent) (exchanges_late spot comm sent))
 no_late choice spot (StartsExchange request received sent awaited) h =
-    numbered_late (sent_can_be spot.size sent && awaited_can_be spot.size (awaited, done_of spot.lines received)) spot.number
-    (λ comm. receives_after (starts_at spot request (start_send Standard comm sent)) spot comm received (message_of awaited (done_of spot.lines received)))
-    (λ comm. receives_late (starts_at spot request (start_send Standard comm sent)) spot comm received (message_of awaited (done_of spot.lines received))
+    numbered_late (sent_can_be spot.size sent && awaited_can_be spot.size (unless_moved spot.lines received awaited, done_of spot.lines received)) spot.number
+    (λ comm. receives_after (starts_at spot request (start_send Standard comm sent)) spot comm received (message_of (unless_moved spot.lines received awaited) (done_of spot.lines received)))
+    (λ comm. receives_late (starts_at spot request (start_send Standard comm sent)) spot comm received (message_of (unless_moved spot.lines received awaited) (done_of spot.lines received))
     (starts_late spot request (start_send Standard comm sent)))
 no_late choice spot (Probes awaited) h =
     numbered_late (awaited_can_be spot.size (awaited, spot.got)) spot.number (λ comm. known_or_ends (message_of awaited spot.got) (probes_at spot comm))
@@ -283,3 +283,13 @@ others_on_none (code.Duplicates w) a b c d e f g h i j k l m' n o = absurd (m' w
 others_on_none (code.Splits w q r) a b c d e f g h i j k l m' n o = absurd (n w q r refl)
 others_on_none (code.Makes w) a b c d e f g h i j k l m' n o = absurd (o w refl)
 others_on_none _ a b c d e f g h i j k l m' n o = refl
+
+-- ---- What is awaited instead ----
+
+pub receives_as : {B : Type 0} (spot : Spot) (request : ℕ) (one other : Awaited) (result : Result B Stop) (old new : ListCode) → one ≡ other
+    → Takes spot (starts_receive_on spot request one) result old new → Takes spot (starts_receive_on spot request other) result old new
+receives_as {B} spot request one other result old new e t = subst (λ it. Takes {A = B} spot (starts_receive_on spot request it) result old new) e t
+
+pub exchanges_as : {B : Type 0} (spot : Spot) (request received : ℕ) (sent : Sent) (one other : Awaited) (result : Result B Stop) (old new : ListCode) → one ≡ other
+    → Takes spot (starts_exchange_on spot request received sent one) result old new → Takes spot (starts_exchange_on spot request received sent other) result old new
+exchanges_as {B} spot request received sent one other result old new e t = subst (λ it. Takes {A = B} spot (starts_exchange_on spot request received sent it) result old new) e t

@@ -6,9 +6,9 @@ use Rattle.mpicall.specs.declared.call.Call.{Call}
 use Rattle.mpicall.specs.declared.call.Call.TheVariants.{Open}
 use Rattle.journals.specs.Known.{has_report}
 use Rattle.journals.specs.declared.word.ReportWord.TheVariants as report
-use Rattle.closing.specs.Called.{Called, Sends, StartsSend, Receives, StartsReceive, Exchanges, StartsExchange, Probes, ProbesMatching, ReceivesMatched, StartsMatched, Waits, Tests, WaitsAny, WaitsSome, Cancels, FreesRequest, Collects, StartsCollective, Duplicates, StartsDuplicate, Splits, Makes, MakesOfGroup, FreesComm, Nothing, Finalizes, Exits, Aborts, Fills, Stops}
+use Rattle.closing.specs.Called.{Called, Sends, StartsSend, Receives, StartsReceive, Exchanges, StartsExchange, Probes, ProbesMatching, ReceivesMatched, StartsMatched, Waits, Tests, WaitsAny, WaitsSome, Cancels, FreesRequest, Collects, StartsCollective, Duplicates, StartsDuplicate, Splits, Makes, MakesOfGroup, FreesComm, Nothing, Finalizes, Exits, Aborts, Fills, Stops, Cuts}
 use Rattle.closing.specs.Endings.{awaited_at, breaks_off, can_be, first_of, lacks_number, message_at, number_at}
-use Rattle.closing.specs.Entries.{Run, Placed}
+use Rattle.closing.specs.Entries.{Run, Placed, is_window}
 use Rattle.closing.specs.Entry.{Choice}
 use Rattle.closing.specs.Fit.{steps_in}
 use Rattle.closing.specs.Pending.{sinks_from, unknown, pending_said}
@@ -31,7 +31,7 @@ use Rattle.closing.specs.declared.stop.Stop.{Stop}
 use Rattle.closing.specs.declared.stop.Stop.TheVariants.{Left, Memory}
 use Rattle.closing.specs.declared.walk.Walk.{Walk}
 use Rattle.closing.specs.declared.why.Why.{Why}
-use Rattle.closing.specs.declared.why.Why.TheVariants.{NeverCameBack, NeverReported, Failed, NoNumber, TooLong, CannotBe, Stopped, Aborted, Full, NoJournal, NotJudged}
+use Rattle.closing.specs.declared.why.Why.TheVariants.{NeverCameBack, NeverReported, Failed, NoNumber, TooLong, CannotBe, Stopped, Aborted, Full, Cut, NoJournal, NotJudged}
 use Rattle.closing.proofs.ChosenLemmas.{chooses_is, pending_ends, pending_other}
 use Rattle.closing.proofs.EntryCases.{found_stands, memory_entered}
 use Rattle.closing.proofs.OutcomeOfEntry.{goes_on_past}
@@ -75,13 +75,13 @@ others_of run placed failed = first_of ((failed, Failed) ∷ (not (can_be run pl
 unsound : (run : Run) (choice : Choice) (records : List Written) (placed : Placed) → is_sound run placed ≡ false → outcome_by_sinks run choice records placed ≡ None
 unsound run choice records placed e = ap (λ (b : Bool). if b then by_call run choice records placed placed.called else None) e
 
-pub broken_plain : (run : Run) (choice : Choice) (records : List Written) (placed : Placed) (why : Why) → breaks_off placed.called ≡ Some why
+pub broken_plain : (run : Run) (choice : Choice) (records : List Written) (placed : Placed) (why : Why) → breaks_off (is_window run) placed.called ≡ Some why
     → outcome_in run choice records placed ≡ outcome_of run choice placed
 broken_plain run choice records placed why e =
     plain_is run choice records placed (λ stand. unsound run choice records placed
     (ap (λ (it : Option Why). is_none (or_else it (others_of run placed (has_report report.Failed placed.entry)))) e))
 
-pub failed_plain : (run : Run) (choice : Choice) (records : List Written) (placed : Placed) → breaks_off placed.called ≡ None → has_report report.Failed placed.entry ≡ true
+pub failed_plain : (run : Run) (choice : Choice) (records : List Written) (placed : Placed) → breaks_off (is_window run) placed.called ≡ None → has_report report.Failed placed.entry ≡ true
     → outcome_in run choice records placed ≡ outcome_of run choice placed
 failed_plain run choice records placed broken failed =
     plain_is run choice records placed (λ stand. unsound run choice records placed
@@ -103,6 +103,7 @@ end_by : (run : Run) (choice : Choice) (records : List Written) (placed : Placed
     → by_call run choice records placed it ≡ None
 end_by run choice records placed Finalizes e none = takes_none choice records placed (number_at run placed) none
 end_by run choice records placed Exits e none = takes_none choice records placed (number_at run placed) none
+end_by run choice records placed Cuts e none = takes_none choice records placed (number_at run placed) none
 end_by run choice records placed (Sends mode sent) e none = absurd (cc (e))
 end_by run choice records placed (StartsSend request mode sent) e none = absurd (cc (e))
 end_by run choice records placed (Receives awaited) e none = absurd (cc (e))
@@ -140,6 +141,7 @@ with_call placed it = record placed { called = it }
 end_awaits : (placed : Placed) (it : Called) → is_end it ≡ true → awaited_at (with_call placed it) ≡ None
 end_awaits placed Finalizes e = refl
 end_awaits placed Exits e = refl
+end_awaits placed Cuts e = refl
 end_awaits placed (Sends mode sent) e = absurd (cc (e))
 end_awaits placed (StartsSend request mode sent) e = absurd (cc (e))
 end_awaits placed (Receives awaited) e = absurd (cc (e))
@@ -210,6 +212,7 @@ message_by run choice records placed Exits outcome e before asked = refl
 message_by run choice records placed Aborts outcome e before asked = refl
 message_by run choice records placed Fills outcome e before asked = refl
 message_by run choice records placed Stops outcome e before asked = refl
+message_by run choice records placed Cuts outcome e before asked = refl
 
 pub messages_sunk : (run : Run) (choice : Choice) (records : List Written) (placed : Placed) (outcome : Outcome) → outcome_by_sinks run choice records placed ≡ Some outcome
     → (before : ℕ → Option ℕ) (request : ℕ) → message_after placed.called before request ≡ before request
@@ -279,6 +282,7 @@ module _ (run : Run) (choice : Choice) (placed : Placed) (handed : Handed) (prog
   stops_taken Stopped taken = ends_taken Stopped (λ long. cc (long)) taken
   stops_taken Aborted taken = ends_taken Aborted (λ long. cc (long)) taken
   stops_taken Full taken = ends_taken Full (λ long. cc (long)) taken
+  stops_taken Cut taken = ends_taken Cut (λ long. cc (long)) taken
   stops_taken NoJournal taken = ends_taken NoJournal (λ long. cc (long)) taken
   stops_taken NotJudged taken = ends_taken NotJudged (λ long. cc (long)) taken
 
@@ -303,6 +307,7 @@ same_found handed progress line found it CannotBe short is = is.0
 same_found handed progress line found it Stopped short is = is.0
 same_found handed progress line found it Aborted short is = is.0
 same_found handed progress line found it Full short is = is.0
+same_found handed progress line found it Cut short is = is.0
 same_found handed progress line found it NoJournal short is = is.0
 same_found handed progress line found it NotJudged short is = is.0
 
@@ -316,6 +321,7 @@ no_pending_at run placed list CannotBe h = refl
 no_pending_at run placed list Stopped h = refl
 no_pending_at run placed list Aborted h = refl
 no_pending_at run placed list Full h = refl
+no_pending_at run placed list Cut h = refl
 no_pending_at run placed list NoJournal h = refl
 no_pending_at run placed list NotJudged h = refl
 
@@ -346,6 +352,7 @@ module _ (run : Run) (choice : Choice) (placed : Placed) (progress : Progress) (
   stops_unknown Stopped known short is = ends_unknown Stopped known is
   stops_unknown Aborted known short is = ends_unknown Aborted known is
   stops_unknown Full known short is = ends_unknown Full known is
+  stops_unknown Cut known short is = ends_unknown Cut known is
   stops_unknown NoJournal known short is = ends_unknown NoJournal known is
   stops_unknown NotJudged known short is = ends_unknown NotJudged known is
 
@@ -375,6 +382,7 @@ module _ (run : Run) (choice : Choice) (placed : Placed) (progress : Progress) (
   final_stops handed steps end Stopped none few is entered = absurd (final_none handed steps end Stopped (λ long. cc (long)) is entered)
   final_stops handed steps end Aborted none few is entered = absurd (final_none handed steps end Aborted (λ long. cc (long)) is entered)
   final_stops handed steps end Full none few is entered = absurd (final_none handed steps end Full (λ long. cc (long)) is entered)
+  final_stops handed steps end Cut none few is entered = absurd (final_none handed steps end Cut (λ long. cc (long)) is entered)
   final_stops handed steps end NoJournal none few is entered = absurd (final_none handed steps end NoJournal (λ long. cc (long)) is entered)
   final_stops handed steps end NotJudged none few is entered = absurd (final_none handed steps end NotJudged (λ long. cc (long)) is entered)
 
@@ -454,6 +462,7 @@ module _ (run : Run) (choice : Choice) (placed : Placed) (handed : Handed) (prog
   stops_by Stopped entered = plain_ends Stopped (λ long. cc (long)) entered
   stops_by Aborted entered = plain_ends Aborted (λ long. cc (long)) entered
   stops_by Full entered = plain_ends Full (λ long. cc (long)) entered
+  stops_by Cut entered = plain_ends Cut (λ long. cc (long)) entered
   stops_by NoJournal entered = plain_ends NoJournal (λ long. cc (long)) entered
   stops_by NotJudged entered = plain_ends NotJudged (λ long. cc (long)) entered
 

@@ -6,7 +6,7 @@ use Rattle.mpicall.specs.declared.call.Call.{Call}
 use Rattle.mpicall.specs.declared.call.Kind.TheVariants as kind
 use Rattle.mpicall.specs.declared.call.Mode.TheVariants.{Standard}
 use Rattle.journals.specs.Lines.{Line}
-use Rattle.closing.specs.Called.{Called, Sent, Sends, StartsSend, Receives, StartsReceive, Exchanges, StartsExchange, Probes, ProbesMatching, ReceivesMatched, StartsMatched, Waits, Tests, WaitsAny, WaitsSome, Cancels, FreesRequest, Collects, StartsCollective, Duplicates, StartsDuplicate, Splits, Makes, MakesOfGroup, FreesComm, Nothing, Finalizes, Exits, Aborts, Fills, Stops}
+use Rattle.closing.specs.Called.{Called, Sent, Sends, StartsSend, Receives, StartsReceive, Exchanges, StartsExchange, Probes, ProbesMatching, ReceivesMatched, StartsMatched, Waits, Tests, WaitsAny, WaitsSome, Cancels, FreesRequest, Collects, StartsCollective, Duplicates, StartsDuplicate, Splits, Makes, MakesOfGroup, FreesComm, Nothing, Finalizes, Exits, Aborts, Fills, Stops, Cuts}
 use Rattle.closing.specs.Endings.{number_at, why_at}
 use Rattle.closing.specs.Entries.{Run, Placed}
 use Rattle.closing.specs.Entry.{Choice, Here, chosen, does, does_both, here_at, ids_of, is_past, kind_of, knowing, on_comm, on_none, pass_test, passes_tests, probe, receive, send, start_collective, start_receive, start_send, starts, steps_by, steps_of, test, unless_past, wait_for_all, wait_for_any, wait_for_one}
@@ -17,7 +17,7 @@ use Rattle.closing.specs.Sinks.{GoesOn, Ends}
 use Rattle.closing.specs.Steps.{Id, Own, Whole, Step, Does, Starts, WaitsForLate}
 use Rattle.mpicall.specs.declared.call.Call.TheVariants.{Finalize}
 use Rattle.closing.specs.declared.why.Why.{Why}
-use Rattle.closing.specs.declared.why.Why.TheVariants.{NeverCameBack, NeverReported, Failed, NoNumber, TooLong, CannotBe, Stopped, Aborted, Full, NoJournal, NotJudged}
+use Rattle.closing.specs.declared.why.Why.TheVariants.{NeverCameBack, NeverReported, Failed, NoNumber, TooLong, CannotBe, Stopped, Aborted, Full, Cut, NoJournal, NotJudged}
 use Rattle.closing.proofs.UnsunkLemmas.{StartNone}
 
 either : (b : Bool) (xs ys : List Step) → StartNone xs → StartNone ys → StartNone (if b then xs else ys)
@@ -87,6 +87,7 @@ comm_unsunk here Exits = tt
 comm_unsunk here Aborts = tt
 comm_unsunk here Fills = tt
 comm_unsunk here Stops = tt
+comm_unsunk here Cuts = tt
 
 -- ---- Waits ----
 
@@ -134,6 +135,7 @@ none_unsunk choice placed lines Exits = tt
 none_unsunk choice placed lines Aborts = tt
 none_unsunk choice placed lines Fills = tt
 none_unsunk choice placed lines Stops = tt
+none_unsunk choice placed lines Cuts = tt
 
 -- ---- An entry ----
 
@@ -154,6 +156,7 @@ before_unsunk run choice placed (StartsExchange request received sent awaited) C
 before_unsunk run choice placed (StartsExchange request received sent awaited) Stopped = tt
 before_unsunk run choice placed (StartsExchange request received sent awaited) Aborted = tt
 before_unsunk run choice placed (StartsExchange request received sent awaited) Full = tt
+before_unsunk run choice placed (StartsExchange request received sent awaited) Cut = tt
 before_unsunk run choice placed (StartsExchange request received sent awaited) NoJournal = tt
 before_unsunk run choice placed (StartsExchange request received sent awaited) NotJudged = tt
 before_unsunk run choice placed (Sends mode sent) why = tt
@@ -185,6 +188,7 @@ before_unsunk run choice placed Exits why = tt
 before_unsunk run choice placed Aborts why = tt
 before_unsunk run choice placed Fills why = tt
 before_unsunk run choice placed Stops why = tt
+before_unsunk run choice placed Cuts why = tt
 
 pub outcome_unsunk : (run : Run) (choice : Choice) (placed : Placed) → StartNone (steps_in (outcome_of run choice placed))
 outcome_unsunk run choice placed = by_why (why_at run placed)

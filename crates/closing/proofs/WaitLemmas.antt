@@ -19,7 +19,7 @@ use Rattle.closing.specs.declared.list.Active.{Active}
 use Rattle.closing.specs.declared.list.TheConstants.{MOST_RECORDS}
 use Rattle.closing.specs.declared.stop.Stop.{Stop}
 use Rattle.closing.specs.declared.stop.Stop.TheVariants.{Left, Memory}
-use Rattle.closing.specs.declared.why.Why.TheVariants.{NeverCameBack, NeverReported, Failed, NoNumber, TooLong, CannotBe, Stopped, Aborted, Full, NoJournal, NotJudged}
+use Rattle.closing.specs.declared.why.Why.TheVariants.{NeverCameBack, NeverReported, Failed, NoNumber, TooLong, CannotBe, Stopped, Aborted, Full, Cut, NoJournal, NotJudged}
 use Rattle.closing.proofs.FreedLemmas.{has_without}
 use Rattle.closing.proofs.ListLemmas.{take_past}
 use Rattle.closing.proofs.RequestLemmas.{found_first, without_append}
@@ -131,6 +131,7 @@ stop_adds A B (Left CannotBe) mid old new ys zs cut adds = absurd adds
 stop_adds A B (Left Stopped) mid old new ys zs cut adds = absurd adds
 stop_adds A B (Left Aborted) mid old new ys zs cut adds = absurd adds
 stop_adds A B (Left Full) mid old new ys zs cut adds = absurd adds
+stop_adds A B (Left Cut) mid old new ys zs cut adds = absurd adds
 stop_adds A B (Left NotJudged) mid old new ys zs cut adds = absurd adds
 stop_adds A B (Left NoJournal) mid old new ys zs cut adds = absurd adds
 

@@ -11,7 +11,7 @@ use Rattle.journals.specs.Lines.{Line}
 use Rattle.journals.specs.declared.field.Field.{Field}
 use Rattle.journals.specs.declared.field.Field.TheVariants.{Natural, Signed, Null, Any, Undefined}
 use Rattle.closing.specs.Called.{naturals_in}
-use Rattle.closing.specs.Reported.{is_gone}
+use Rattle.closing.specs.Reported.{is_left_out}
 use Rattle.closing.specs.Steps.{Id, Own, Written, Progress, Step, Does, Starts, WaitsForAll, WaitsForOne, PutsOff, WaitsForLate, number_in, numbers_of, wait_one, after_step, after_steps}
 use Rattle.closing.specs.Sinks.{Outcome, GoesOn, Ends}
 use Rattle.closing.specs.Entry.{Choice, id_of, ids_of, is_of_send, pass_test, passes_tests, test, unless_past, wait_for_all, wait_for_one}
@@ -29,7 +29,7 @@ use Rattle.closing.specs.declared.list.List.{List as ListCode}
 use Rattle.closing.specs.declared.list.Active.{Active}
 use Rattle.closing.specs.declared.stop.Stop.{Stop}
 use Rattle.closing.specs.declared.stop.Stop.TheVariants.{Left, Memory}
-use Rattle.closing.specs.declared.why.Why.TheVariants.{NeverCameBack, NeverReported, Failed, NoNumber, TooLong, CannotBe, Stopped, Aborted, Full, NoJournal, NotJudged}
+use Rattle.closing.specs.declared.why.Why.TheVariants.{NeverCameBack, NeverReported, Failed, NoNumber, TooLong, CannotBe, Stopped, Aborted, Full, Cut, NoJournal, NotJudged}
 
 -- ---- What is put off ----
 
@@ -249,17 +249,17 @@ module _ (lines : List Line) (g : ℕ → Bool) (request : ℕ) (requests : List
   ids_first : g request ≡ true → ids_of lines (filter g (request ∷ requests)) ≡ ids_of lines (request ∷ filter g requests)
   ids_first holds = ap (ids_of lines) (cond-true (g request) (request ∷ filter g requests) (filter g requests) holds)
 
-  ids_left : is_gone lines request ≡ true → ids_of lines (request ∷ filter g requests) ≡ ids_of lines (filter g requests)
+  ids_left : is_left_out lines request ≡ true → ids_of lines (request ∷ filter g requests) ≡ ids_of lines (filter g requests)
   ids_left gone =
-      ap (map (id_of lines)) (cond-false (not (is_gone lines request)) (request ∷ filter (λ one. not (is_gone lines one)) (filter g requests))
-      (filter (λ one. not (is_gone lines one)) (filter g requests)) (ap not gone))
+      ap (map (id_of lines)) (cond-false (not (is_left_out lines request)) (request ∷ filter (λ one. not (is_left_out lines one)) (filter g requests))
+      (filter (λ one. not (is_left_out lines one)) (filter g requests)) (ap not gone))
 
-  ids_had : is_gone lines request ≡ false → ids_of lines (request ∷ filter g requests) ≡ id_of lines request ∷ ids_of lines (filter g requests)
+  ids_had : is_left_out lines request ≡ false → ids_of lines (request ∷ filter g requests) ≡ id_of lines request ∷ ids_of lines (filter g requests)
   ids_had not_gone =
-      ap (map (id_of lines)) (cond-true (not (is_gone lines request)) (request ∷ filter (λ one. not (is_gone lines one)) (filter g requests))
-      (filter (λ one. not (is_gone lines one)) (filter g requests)) (ap not not_gone))
+      ap (map (id_of lines)) (cond-true (not (is_left_out lines request)) (request ∷ filter (λ one. not (is_left_out lines one)) (filter g requests))
+      (filter (λ one. not (is_left_out lines one)) (filter g requests)) (ap not not_gone))
 
-  ids_without : is_gone lines request ≡ true → ids_of lines (filter g (request ∷ requests)) ≡ ids_of lines (filter g requests)
+  ids_without : is_left_out lines request ≡ true → ids_of lines (filter g (request ∷ requests)) ≡ ids_of lines (filter g requests)
   ids_without gone = elim (cases_Bool (g request)) [
     | inl holds ↦ ids_first holds ∙ ids_left gone
     | inr fails ↦ ids_passed fails
@@ -281,20 +281,20 @@ module _ (keep : Bool → Bool) (lines : List Line) (handed : Handed) (p : Progr
   abbrev kept_requests : List ℕ → List Id
   kept_requests requests = ids_of lines (filter (λ request. keep (is_of_send lines request)) requests)
 
-  next_kept : (request : ℕ) (fields : List Field) → StandsFor lines it request → (is_gone lines request ≡ false → HasKind lines p request)
+  next_kept : (request : ℕ) (fields : List Field) → StandsFor lines it request → (is_left_out lines request ≡ false → HasKind lines p request)
       → kept_ids fields ≡ kept_requests (naturals_in fields) → kept_ids (Natural request ∷ fields) ≡ kept_requests (request ∷ naturals_in fields)
-  next_kept request fields same kind rest = elim (cases_Bool (is_gone lines request)) [
+  next_kept request fields same kind rest = elim (cases_Bool (is_left_out lines request)) [
     | inl gone ↦
         ap (λ ids. map Own (filter (λ id. keep (is_send_in list id)) ids))
-        (cond-true (kept.is_gone (outcome_at it.outcomes request)) (ids_in it fields) (id_in it request ∷ ids_in it fields) (tells.gone request ∙ gone))
+        (cond-true (kept.is_left_out (outcome_at it.outcomes request)) (ids_in it fields) (id_in it request ∷ ids_in it fields) (tells.left_out request ∙ gone))
         ∙ rest ∙ sym (ids_without lines (λ request. keep (is_of_send lines request)) request (naturals_in fields) gone)
     | inr had ↦
         ap (λ ids. map Own (filter (λ id. keep (is_send_in list id)) ids))
-        (cond-false (kept.is_gone (outcome_at it.outcomes request)) (ids_in it fields) (id_in it request ∷ ids_in it fields) (tells.gone request ∙ had))
+        (cond-false (kept.is_left_out (outcome_at it.outcomes request)) (ids_in it fields) (id_in it request ∷ ids_in it fields) (tells.left_out request ∙ had))
         ∙ by_kind had (ap keep (kind_same lines handed p list it request stands same (kind had)))
   ]
     where
-      by_kind : is_gone lines request ≡ false → keep (is_send_in list (id_in it request)) ≡ keep (is_of_send lines request)
+      by_kind : is_left_out lines request ≡ false → keep (is_send_in list (id_in it request)) ≡ keep (is_of_send lines request)
           → map Own (filter (λ id. keep (is_send_in list id)) (id_in it request ∷ ids_in it fields)) ≡ kept_requests (request ∷ naturals_in fields)
       by_kind had e = elim (cases_Bool (keep (is_of_send lines request))) [
         | inl holds ↦
@@ -346,6 +346,7 @@ comes_late (Err (Left CannotBe)) handed p late line it comes = comes
 comes_late (Err (Left Stopped)) handed p late line it comes = comes
 comes_late (Err (Left Aborted)) handed p late line it comes = comes
 comes_late (Err (Left Full)) handed p late line it comes = comes
+comes_late (Err (Left Cut)) handed p late line it comes = comes
 comes_late (Err (Left NotJudged)) handed p late line it comes = comes
 comes_late (Err (Left NoJournal)) handed p late line it comes = comes
 

@@ -51,7 +51,7 @@ pub data Called : Type 0 where
   Makes : ℕ → Called
   MakesOfGroup : List ℕ → Called
   FreesComm : ℕ → Called
-  Nothing Finalizes Exits Aborts Fills Stops : Called
+  Nothing Finalizes Exits Aborts Fills Stops Cuts : Called
 
 -- ---- Fields that aren't those of a word, as no line of a journal has them, say nothing ----
 
@@ -133,6 +133,7 @@ called call.Abort fields = Aborts
 called call.Exit fields = Exits
 called call.Full fields = Fills
 called call.Stopped fields = Stops
+called call.Cut fields = Cuts
 called call.Send fields = sends Standard fields
 called call.Rsend fields = sends Standard fields
 called call.Ssend fields = sends Synchronous fields

@@ -1,18 +1,18 @@
 -- At which entry, and why, the list of a rank ends before its end. The rules are asked in this order: what the rank
--- does from here on isn't known; the call failed; what can't be; a communicator without a number; a receive or a
+-- does from here on isn't known, or was cut off alone; the call failed; what can't be; a communicator without a number; a receive or a
 -- cancel of which nothing was reported; a call that never came back, and nothing is known of what it waits for.
-use Rattle.std.specs.Prelude.{ℕ, Bool, true, false, ◌&&◌, not, Option, Some, None, is_some, is_none, option_and_then, List, [], ◌∷◌, length}
+use Rattle.std.specs.Prelude.{ℕ, Bool, true, false, ◌&&◌, not, Option, Some, None, is_some, is_none, option_and_then, if◌then◌else◌, List, [], ◌∷◌, length}
 use Rattle.std.specs.Option.{option_map_or}
 use Rattle.mpicall.specs.Word.{or_else}
 use Rattle.journals.specs.Known.{has_report, report_of}
 use Rattle.journals.specs.declared.word.ReportWord.TheVariants as report
-use Rattle.closing.specs.Called.{Called, Sent, Awaited, Sends, StartsSend, Receives, StartsReceive, Exchanges, StartsExchange, Probes, ProbesMatching, WaitsAny, WaitsSome, Cancels, Collects, StartsCollective, MakesOfGroup, Aborts, Fills, Stops, comm_of}
+use Rattle.closing.specs.Called.{Called, Sent, Awaited, Sends, StartsSend, Receives, StartsReceive, Exchanges, StartsExchange, Probes, ProbesMatching, WaitsAny, WaitsSome, Cancels, Collects, StartsCollective, MakesOfGroup, Aborts, Fills, Stops, Cuts, comm_of}
 use Rattle.closing.specs.Keys.{group_of_key}
-use Rattle.closing.specs.Entries.{Run, Placed}
+use Rattle.closing.specs.Entries.{Run, Placed, is_window}
 use Rattle.closing.specs.Numbers.{named_key, number_of}
-use Rattle.closing.specs.Reported.{Message, done_of, got_in, is_gone, is_settled, message_of, message_can_be, peer_can_be, tag_can_be, root_can_be}
+use Rattle.closing.specs.Reported.{Message, done_of, got_in, unless_moved, is_gone, is_settled, message_of, message_can_be, peer_can_be, tag_can_be, root_can_be}
 use Rattle.closing.specs.declared.why.Why.{Why}
-use Rattle.closing.specs.declared.why.Why.TheVariants.{NeverCameBack, NeverReported, Failed, NoNumber, CannotBe, Stopped, Aborted, Full}
+use Rattle.closing.specs.declared.why.Why.TheVariants.{NeverCameBack, NeverReported, Failed, NoNumber, CannotBe, Stopped, Aborted, Full, Cut}
 
 -- ---- Messages ----
 
@@ -22,9 +22,11 @@ awaited_at placed = awaited_by placed.called
   where
     awaited_by : Called → Option (Awaited × Option Message)
     awaited_by (Receives awaited) = Some (awaited, got_in placed.entry)
-    awaited_by (StartsReceive request awaited) = Some (awaited, done_of placed.journal.lines request)
+    awaited_by (StartsReceive request awaited) =
+        Some (unless_moved placed.journal.lines request awaited, done_of placed.journal.lines request)
     awaited_by (Exchanges sent awaited) = Some (awaited, got_in placed.entry)
-    awaited_by (StartsExchange request received sent awaited) = Some (awaited, done_of placed.journal.lines received)
+    awaited_by (StartsExchange request received sent awaited) =
+        Some (unless_moved placed.journal.lines received awaited, done_of placed.journal.lines received)
     awaited_by (Probes awaited) = Some (awaited, got_in placed.entry)
     awaited_by (ProbesMatching message awaited) = Some (awaited, got_in placed.entry)
     awaited_by it = None
@@ -105,11 +107,13 @@ is_unknown placed it = false
 
 -- ---- Why an entry ends the list ----
 
-abbrev pub breaks_off : Called → Option Why
-breaks_off Stops = Some Stopped
-breaks_off Aborts = Some Aborted
-breaks_off Fills = Some Full
-breaks_off it = None
+-- a cut does where the journal of another rank goes on
+abbrev pub breaks_off : Bool → Called → Option Why
+breaks_off is_window Stops = Some Stopped
+breaks_off is_window Aborts = Some Aborted
+breaks_off is_window Fills = Some Full
+breaks_off is_window Cuts = if is_window then None else Some Cut
+breaks_off is_window it = None
 
 -- the first that is the case
 abbrev pub first_of : List (Bool × Why) → Option Why
@@ -120,7 +124,7 @@ first_of ((false, why) ∷ others) = first_of others
 -- why the entry ends its rank's list; None where the list goes on
 abbrev pub why_at : Run → Placed → Option Why
 why_at run placed =
-    or_else (breaks_off placed.called)
+    or_else (breaks_off (is_window run) placed.called)
     (first_of ((has_report report.Failed placed.entry, Failed) ∷ (not (can_be run placed), CannotBe)
     ∷ (lacks_number run placed, NoNumber) ∷ (is_unreported placed placed.called, NeverReported)
     ∷ (is_unknown placed placed.called, NeverCameBack) ∷ []))

@@ -1,8 +1,9 @@
 -- The journals of a run and their entries: each with what its call line says, what the rank has before its call, and
 -- whether the call came back.
 use Rattle.std.specs.Prelude.{ℕ, ◌+◌, Bool, true, false, ◌||◌, Option, Some, None, List, [], ◌∷◌, length, slice_get}
-use Rattle.std.specs.List.{list_any, flat_map, range_with_len}
+use Rattle.std.specs.List.{list_any, list_all, flat_map, range_with_len}
 use Rattle.journals.specs.Lines.{Line}
+use Rattle.journals.specs.Faults.{ends_with_cut}
 use Rattle.journals.specs.Words.{is_call}
 use Rattle.journals.specs.Journal.{Journal}
 use Rattle.journals.specs.Entries.{Entry, listing_of}
@@ -46,6 +47,15 @@ pub record Placed : Type 0 where
   pub comms : RankComms
   pub came_back : Bool
 
+-- the journal ends where nothing is under way
+abbrev pub is_cut_off : Option Journal → Bool
+is_cut_off None = false
+is_cut_off (Some journal) = ends_with_cut journal.lines
+
+-- so do the journals of all ranks
+abbrev pub is_window : Run → Bool
+is_window run = list_all is_cut_off run
+
 -- ---- Whether a call came back ----
 
 -- the report says that the call before it came back
@@ -53,6 +63,7 @@ abbrev pub says_back : Word → Bool
 says_back (Report report.Done) = false
 says_back (Report report.Gone) = false
 says_back (Report report.Kept) = false
+says_back (Report report.Moved) = false
 says_back (Report report.Apart) = false
 says_back word = true
 

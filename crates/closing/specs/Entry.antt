@@ -28,7 +28,7 @@ use Rattle.closing.specs.RankComms.{Wave}
 use Rattle.closing.specs.Entries.{Run, Placed}
 use Rattle.closing.specs.Made.{wave_at, keys_of_wave, key_made}
 use Rattle.closing.specs.Numbers.{named_key, number_of, rank_in}
-use Rattle.closing.specs.Reported.{Message, is_gone}
+use Rattle.closing.specs.Reported.{Message, is_gone, is_left_out}
 use Rattle.closing.specs.Steps.{Id, Own, Whole, ReceiveHalf, Step, Does, Starts, WaitsForAll, WaitsForOne, PutsOff}
 use Rattle.closing.specs.Endings.{message_at, number_at}
 use Rattle.closing.specs.declared.choice.Tests.{Tests as TestsChoice}
@@ -171,9 +171,9 @@ starts_send_in request word fields = false
 abbrev pub is_of_send : List Line → ℕ → Bool
 is_of_send lines request = list_any (λ line. starts_send_in request line.word line.fields) lines
 
--- what stands for some requests; nothing for those that were cancelled
+-- what stands for some requests in a wait; nothing for those that were cancelled or are moved
 abbrev pub ids_of : List Line → List ℕ → List Id
-ids_of lines requests = map (id_of lines) (filter (λ request. not (is_gone lines request)) requests)
+ids_of lines requests = map (id_of lines) (filter (λ request. not (is_left_out lines request)) requests)
 
 abbrev pub wait_for_all : List Line → List ℕ → List Step
 wait_for_all lines requests = WaitsForAll (ids_of lines requests) ∷ []

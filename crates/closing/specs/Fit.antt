@@ -17,7 +17,7 @@ use Rattle.closing.specs.Called.{Called, ReceivesMatched, Waits, Tests, WaitsAny
 use Rattle.closing.specs.Entries.{Run, Placed, lines_at, entries_at}
 use Rattle.closing.specs.FitComms.{HasFitComms}
 use Rattle.closing.specs.Numbers.{preface_of}
-use Rattle.closing.specs.Reported.{done_in, is_gone, says_gone, says_kept}
+use Rattle.closing.specs.Reported.{done_in, is_left_out, says_gone, says_kept, says_moved}
 use Rattle.closing.specs.Steps.{Id, Own, Whole, ReceiveHalf, Sink, Written, Progress, Step, Does, Starts, number_in, after_step, after_steps}
 use Rattle.closing.specs.Endings.{size_at}
 use Rattle.closing.specs.Entry.{Choice, id_of, is_of_send, is_past, passes_tests}
@@ -109,11 +109,11 @@ pub record HasKind (lines : List Line) (progress : Progress) (request : ℕ) : T
   pub active : is_of_send lines request ≡ true → is_some (number_in progress.active (id_of lines request)) ≡ true
   pub starts : (place : ℕ) → StartsKind (is_of_send lines request) (id_of lines request) (slice_get progress.records place)
 
--- so it is of each of these that wasn't cancelled
+-- so it is of each of these that waits don't leave out
 abbrev pub AllHaveKind : List Line → Progress → List ℕ → Type 0
 AllHaveKind lines progress [] = Unit {0}
 AllHaveKind lines progress (request ∷ requests) =
-    (is_gone lines request ≡ false → HasKind lines progress request) × AllHaveKind lines progress requests
+    (is_left_out lines request ≡ false → HasKind lines progress request) × AllHaveKind lines progress requests
 
 -- where tests are passed no call stands for what it started, and what is tested has its kind
 abbrev pub TestFits : Choice → Placed → Called → Progress → Type 0
@@ -131,10 +131,10 @@ TestsFit run choice progress (placed ∷ others) =
 
 -- ---- Reports of requests ----
 
--- the line reports what came of the request
+-- the line reports what came of the request, or that it is moved
 abbrev pub reports_of : ℕ → Word → List Field → Bool
 reports_of request word fields =
-    is_some (done_in request word fields) || says_gone request word fields || says_kept request word fields
+    is_some (done_in request word fields) || says_gone request word fields || says_kept request word fields || says_moved request word fields
 
 -- how many lines do
 abbrev pub report_count : List Line → ℕ → ℕ
@@ -145,6 +145,7 @@ abbrev pub IsFormed : Word → List Field → Type 0
 IsFormed (Report report.Done) fields = length fields ≡ 3
 IsFormed (Report report.Gone) fields = length fields ≡ 1
 IsFormed (Report report.Kept) fields = length fields ≡ 1
+IsFormed (Report report.Moved) fields = length fields ≡ 1
 IsFormed word fields = Unit {0}
 
 abbrev pub AreFormed : List Line → Type 0

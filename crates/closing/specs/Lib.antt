@@ -11,6 +11,7 @@ pub mod Recordings
 pub mod Journals
 pub mod Keys
 pub mod Left
+pub mod Moved
 pub mod Made
 pub mod Numbers
 pub mod Recording

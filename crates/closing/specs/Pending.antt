@@ -4,7 +4,7 @@ use Rattle.std.specs.List.{filter_map, list_all}
 use Rattle.mpicall.specs.Word.{or_else}
 use Rattle.closing.specs.Called.{Called, Receives, Exchanges, Probes, ProbesMatching, ReceivesMatched, Waits, WaitsAny, WaitsSome}
 use Rattle.closing.specs.Entries.{Run, Placed, entries_at}
-use Rattle.closing.specs.Reported.{is_gone}
+use Rattle.closing.specs.Reported.{is_left_out}
 use Rattle.closing.specs.Steps.{Whole, Written, number_in}
 use Rattle.closing.specs.Endings.{number_at}
 use Rattle.closing.specs.Entry.{Choice, id_of}
@@ -59,7 +59,7 @@ send_items list placed = option_to_list (option_map (λ number. item.Request num
 -- a request by its sink, else by its number; None of one that doesn't stand in the list
 abbrev pub item_of : Listed → Placed → ℕ → Option Item
 item_of list placed request =
-    if is_gone placed.journal.lines request then None
+    if is_left_out placed.journal.lines request then None
     else or_else (option_map (λ wanted. item.Message wanted) (sink_for list.records (id_of placed.journal.lines request)))
     (option_map (λ number. item.Request number) (number_in list.active (id_of placed.journal.lines request)))
 

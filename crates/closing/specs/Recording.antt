@@ -2,7 +2,7 @@
 use Rattle.std.specs.Prelude.{ℕ, ◌-◌, Bool, true, false, nat_lt, Option, Some, None, is_none, unwrap_or, if◌then◌else◌, List, [], ◌∷◌, ◌++◌, length, map, take, slice_get}
 use Rattle.mpicall.specs.declared.call.Call.{Call}
 use Rattle.mpicall.specs.declared.call.Call.TheVariants.{Finalize, Open}
-use Rattle.closing.specs.Called.{Called, StartsExchange, Finalizes, Exits}
+use Rattle.closing.specs.Called.{Called, StartsExchange, Finalizes, Exits, Cuts}
 use Rattle.closing.specs.Entries.{Run, Placed, journal_at, entries_at, ranks_of}
 use Rattle.closing.specs.Numbers.{groups_of, preface_of}
 use Rattle.closing.specs.Steps.{Id, Step, WaitsForLate, Written, Progress, plain, after_steps}
@@ -32,10 +32,11 @@ ended progress end line why = record { records = progress.records; end = end; li
 
 -- ---- Entries ----
 
--- the rank's last call, or the end of its program
+-- the rank's last call, the end of its program or of its window
 abbrev pub is_end : Called → Bool
 is_end Finalizes = true
 is_end Exits = true
+is_end Cuts = true
 is_end it = false
 
 -- the send of an exchange stands even where its receive was never reported

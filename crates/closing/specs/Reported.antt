@@ -47,6 +47,25 @@ says_kept request _ _ = false
 abbrev pub is_kept : List Line → ℕ → Bool
 is_kept lines request = list_any (λ line. says_kept request line.word line.fields) lines
 
+abbrev pub says_moved : ℕ → Word → List Field → Bool
+says_moved request (Report report.Moved) (Natural moved ∷ []) = moved == request
+says_moved request _ _ = false
+
+-- the receive of the request goes on in the journal after this one
+abbrev pub is_moved : List Line → ℕ → Bool
+is_moved lines request = list_any (λ line. says_moved request line.word line.fields) lines
+
+abbrev pub from_nobody : Awaited → Awaited
+from_nobody it = record { comm = it.comm; source = Null; tag = Signed (pos 0) }
+
+-- what a started receive awaits; that of a moved request nobody
+abbrev pub unless_moved : List Line → ℕ → Awaited → Awaited
+unless_moved lines request it = if is_moved lines request then from_nobody it else it
+
+-- waits leave the request out
+abbrev pub is_left_out : List Line → ℕ → Bool
+is_left_out lines request = is_gone lines request || is_moved lines request
+
 -- it was reported what came of a cancel of the request
 abbrev pub is_settled : List Line → ℕ → Bool
 is_settled lines request = is_gone lines request || is_kept lines request || is_some (done_of lines request)

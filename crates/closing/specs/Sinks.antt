@@ -13,7 +13,7 @@ use Rattle.journals.specs.declared.field.Field.{Field}
 use Rattle.journals.specs.declared.field.Field.TheVariants.{Signed, Null}
 use Rattle.journals.specs.declared.word.ReportWord.TheVariants as report
 use Rattle.closing.specs.Called.{Called, Sent, Awaited, Receives, StartsReceive, Exchanges, StartsExchange, Probes, ProbesMatching, ReceivesMatched, Waits, Tests, WaitsAny, WaitsSome}
-use Rattle.closing.specs.Entries.{Run, Placed}
+use Rattle.closing.specs.Entries.{Run, Placed, is_window}
 use Rattle.closing.specs.Reported.{Message, is_gone}
 use Rattle.closing.specs.Steps.{Id, Own, Whole, Sink, Written, Step, Starts}
 use Rattle.closing.specs.Endings.{awaited_at, message_at, breaks_off, can_be, first_of, lacks_number, number_at}
@@ -146,7 +146,7 @@ chooses_by choice records placed requests =
 -- neither does the call break the list off, nor did it fail; and it can be, on a communicator with a number
 abbrev pub is_sound : Run → Placed → Bool
 is_sound run placed =
-    is_none (or_else (breaks_off placed.called)
+    is_none (or_else (breaks_off (is_window run) placed.called)
     (first_of ((has_report report.Failed placed.entry, Failed) ∷ (not (can_be run placed), CannotBe) ∷ (lacks_number run placed, NoNumber) ∷ [])))
 
 abbrev pub by_call : Run → Choice → List Written → Placed → Called → Option Outcome

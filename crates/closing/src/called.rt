@@ -71,6 +71,7 @@ pub(crate) enum Called<'a> {
     Aborts,
     Fills,
     Stops,
+    Cuts,
 }
 
 // ---- Fields that aren't those of a word, as no line of a journal has them, say nothing ----
@@ -416,6 +417,7 @@ pub(crate) fn read_call(word: CallWord, fields: &[Field]) -> Called<'_>
         CallWord::Abort => Called::Aborts,
         CallWord::Full => Called::Fills,
         CallWord::Stopped => Called::Stops,
+        CallWord::Cut => Called::Cuts,
         CallWord::Wait => Called::Waits(fields),
         CallWord::Test => Called::Tests(fields),
         CallWord::Waitany => Called::WaitsAny(fields),

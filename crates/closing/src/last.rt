@@ -1,11 +1,15 @@
 //! The reports of a call line, and the last call line of a journal.
 
-ghost use Rattle.std.specs.Prelude.{◌≡◌, drop};
+ghost use Rattle.std.specs.Prelude.{◌≡◌, drop, option_map};
+ghost use Rattle.std.specs.Option.{option_copied};
 ghost use Rattle.journals.specs.declared.word.Word.TheVariants.{Report};
+ghost use Rattle.journals.specs.Faults.{ends_with_cut};
 ghost use Rattle.journals.specs.JournalAnswers.{heading_in};
 ghost use Rattle.journals.specs.Taking.{word_at};
-ghost use Rattle.closing.specs.Entries.{comes_always, says_back};
-ghost use Rattle.closing.specs.inner.Noted.{AreReports, HavePlaces, IsLastCall, first_place, noted, report_if, reports_in};
+ghost use Rattle.closing.specs.Entries.{comes_always, is_cut_off, is_window, lines_in, says_back};
+ghost use Rattle.closing.specs.Journals.{journal_in, run_in};
+ghost use Rattle.closing.specs.inner.Noted.{AreReports, HavePlaces, IsLastCall, call_if, first_place, is_cut_if, noted, report_if, reports_in};
+ghost use Rattle.closing.specs.inner.Rankwise.{AreFew};
 
 use crate::places::count_of;
 use journals::journal::Journal;
@@ -91,7 +95,11 @@ fn says_back(word: ReportWord) -> bool
 {
     !matches!(
         word,
-        ReportWord::Done | ReportWord::Gone | ReportWord::Kept | ReportWord::Apart
+        ReportWord::Done
+            | ReportWord::Gone
+            | ReportWord::Kept
+            | ReportWord::Moved
+            | ReportWord::Apart
     )
 }
 
@@ -120,6 +128,45 @@ pub(crate) fn last_call(lines: &Lines, is_outside: bool) -> Option<LastCall>
         }
     }
     None
+}
+
+fn is_cut(word: Option<Word>) -> bool
+    ensures { result ≡ is_cut_if (call_if word) }
+{
+    matches!(word, Some(Word::Call(CallWord::Cut)))
+}
+
+/// Whether a journal ends where nothing is under way.
+fn ends_with_cut(journal: &Journal) -> bool
+    ensures { HavePlaces journal.now.lines → result ≡ ends_with_cut journal.now.lines }
+{
+    match last_call_of(journal) {
+        Some(last) => is_cut(journal.lines.word(last.line)),
+        None => false,
+    }
+}
+
+/// Whether that of a rank does, if it has one.
+pub(crate) fn is_cut_off(journal: Option<&Journal>) -> bool
+    ensures { HavePlaces (lines_in (option_map journal_in (option_copied journal.entry))) →
+        result ≡ is_cut_off (option_map journal_in (option_copied journal.entry)) }
+{
+    match journal {
+        Some(journal) => ends_with_cut(journal),
+        None => false,
+    }
+}
+
+/// Whether those of all ranks do.
+pub(crate) fn are_cut_off(journals: &[Option<Journal>]) -> bool
+    ensures { AreFew journals.now → result ≡ is_window (run_in journals.now) }
+{
+    for rank in 0..journals.len() {
+        if !is_cut_off(journals[rank].as_ref()) {
+            return false;
+        }
+    }
+    true
 }
 
 /// The last call line of a rank's journal, and whether its call came back.

@@ -15,6 +15,7 @@
 //! | `numbers` | the numbers of the head, and the preface | `Numbers` |
 //! | `last` | the reports of an entry, and whether the last call came back | `Entries` |
 //! | `outcomes`, `message` | what is reported of requests; messages, and what can't be | `Reported`, `Endings` |
+//! | `moved` | the receives that go on in the journal after this one | `Moved` |
 //! | `freed` | the requests that a rank's program frees, and where its list starts them | `Freed` |
 //! | `list` | the records of a rank so far, and its active requests with their numbers | `Steps` |
 //! | `walk` | one rank: what stands for its entries, and where and why its list ends | `Entry`, `Endings`, `Recording` |
@@ -35,8 +36,9 @@ mod keys;
 mod last;
 mod list;
 mod message;
+mod moved;
 pub mod numbers;
-mod outcomes;
+pub mod outcomes;
 pub mod pending;
 mod places;
 mod rank_comms;

@@ -11,7 +11,7 @@ ghost use Rattle.journals.specs.Known.{is_among};
 ghost use Rattle.closing.specs.Keys as say;
 ghost use Rattle.closing.specs.Keys.{group_of_key};
 ghost use Rattle.closing.specs.RankComms as waves;
-ghost use Rattle.closing.specs.Entries.{Run, entries_at};
+ghost use Rattle.closing.specs.Entries.{Run, entries_at, is_window as is_window_of};
 ghost use Rattle.closing.specs.Entry.{brings, parent_rank};
 ghost use Rattle.closing.specs.FitComms.{HasFitComms};
 ghost use Rattle.closing.specs.Journals.{run_in};
@@ -22,11 +22,13 @@ ghost use Rattle.closing.specs.inner.Given.{AreBelow, IsNumbering, got_between, 
 ghost use Rattle.closing.specs.Groups.{groups_in};
 ghost use Rattle.closing.specs.inner.Numbered.{AreGroupsOf, AreNamed, HasPreface, IsNumberedRun, brings_at, is_known, is_same_wave, named_as, same_wave, wave_made};
 ghost use Rattle.closing.specs.inner.Prefaces.{AreRanks, IsPreface, Seated, first_free, is_of_none, is_seat, put_all, put_seated, put_seated_if, seat_at, seated_from, seats_with, with_line, with_seat};
+ghost use Rattle.closing.specs.inner.Rankwise.{AreFew};
 ghost use Rattle.closing.specs.inner.Surveyed.{IsSurveyed};
 ghost use Rattle.closing.specs.Table.{group_at};
 ghost use Rattle.closing.specs.inner.Table.{HasKey, IsPlaceOf, IsWaveOf};
 
 use crate::keys::{Key, Keys, WORLD, Wave};
+use crate::last::are_cut_off;
 use crate::places::{as_colour, as_key, checked_place, checked_rank, place_in};
 use crate::survey::Survey;
 use journals::journal::Journal;
@@ -267,6 +269,8 @@ pub struct Communicators {
     /// Of each rank what its last call made, where others alone report it.
     inferred: Vec<Option<u32>>,
     pub(crate) preface: Preface,
+    /// All journals end where nothing is under way.
+    pub(crate) is_window: bool,
 }
 
 /// Whether a call names the communicator of a key.
@@ -520,8 +524,9 @@ fn communicators_of(
     alloc: Global,
     ranks: usize,
     survey: Survey,
+    is_window: bool,
 ) -> Result<Communicators, AllocError>
-    ensures { IfOk result (λ it. (run : Run) → ranks ≡ length run → HasFitComms run → IsSurveyed run survey → IsNumberedRun run it) }
+    ensures { IfOk result (λ it. (run : Run) → ranks ≡ length run → HasFitComms run → IsSurveyed run survey → is_window ≡ is_window_of run → IsNumberedRun run it) }
 {
     let numbering = numbering_of(alloc, &survey)?;
     let list = numbering.numbered.as_slice();
@@ -538,6 +543,7 @@ fn communicators_of(
         bringing,
         inferred,
         preface,
+        is_window,
     })
 }
 
@@ -547,10 +553,10 @@ impl Communicators {
         alloc: Global,
         journals: &[Option<Journal>],
     ) -> Result<Communicators, AllocError>
-        ensures { IfOk result (λ it. HasFitComms (run_in journals.now) → IsNumberedRun (run_in journals.now) it) }
+        ensures { IfOk result (λ it. AreFew journals.now → HasFitComms (run_in journals.now) → IsNumberedRun (run_in journals.now) it) }
     {
         let survey = Survey::of(alloc, journals)?;
-        let kept = communicators_of(alloc, journals.len(), survey)?;
+        let kept = communicators_of(alloc, journals.len(), survey, are_cut_off(journals))?;
         Ok(kept)
     }
 

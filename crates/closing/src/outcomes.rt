@@ -2,7 +2,7 @@
 
 ghost use Rattle.std.specs.Prelude.{◌≡◌, ◌<◌, ◌==◌, ℕ, OnOk, IfOk, option_map, slice_get, if◌then◌else◌};
 ghost use Rattle.std.specs.Vec.{vec_len};
-ghost use Rattle.closing.specs.inner.Outcomes.{is_gone, is_settled, kept_at, message_by, outcome_at, outcome_at_line, outcome_by, outcome_in};
+ghost use Rattle.closing.specs.inner.Outcomes.{is_gone, is_left_out, is_moved, is_settled, kept_at, message_by, outcome_at, outcome_at_line, outcome_by, outcome_in};
 ghost use Rattle.closing.specs.inner.RequestReports.{AreReadable, Tells};
 ghost use Rattle.closing.specs.inner.Views.{message_view};
 ghost use Rattle.closing.specs.declared.outcomes.Outcome.TheVariants.{Unknown};
@@ -26,11 +26,13 @@ pub(crate) enum Outcome {
     Gone,
     /// It completed though a cancel named it.
     Kept,
+    /// Its receive goes on in the journal after this one.
+    Moved,
 }
 
 /// What came of the requests of which that was reported.
 #[derive(Drop)]
-pub(crate) struct Outcomes {
+pub struct Outcomes {
     /// That of each request whose number isn't above that of the lines; programs mostly number their requests
     /// from 1 on.
     near: Vec<Outcome>,
@@ -47,6 +49,7 @@ fn outcome_in(word: ReportWord, line: u32) -> Option<Outcome>
         ReportWord::Done => Some(Outcome::Done(line)),
         ReportWord::Gone => Some(Outcome::Gone),
         ReportWord::Kept => Some(Outcome::Kept),
+        ReportWord::Moved => Some(Outcome::Moved),
         _ => None,
     }
 }
@@ -174,10 +177,24 @@ impl Outcomes {
         matches!(self.outcome(request), Outcome::Gone)
     }
 
+    /// Whether the receive of the request goes on in the journal after this one.
+    pub(crate) fn is_moved(&self, request: u32) -> bool
+        ensures { result ≡ is_moved (outcome_at self.now request) }
+    {
+        matches!(self.outcome(request), Outcome::Moved)
+    }
+
+    /// Whether waits leave the request out.
+    pub(crate) fn is_left_out(&self, request: u32) -> bool
+        ensures { result ≡ is_left_out (outcome_at self.now request) }
+    {
+        matches!(self.outcome(request), Outcome::Gone | Outcome::Moved)
+    }
+
     /// Whether what came of a cancel of the request was reported.
     pub(crate) fn is_settled(&self, request: u32) -> bool
         ensures { result ≡ is_settled (outcome_at self.now request) }
     {
-        !matches!(self.outcome(request), Outcome::Unknown)
+        !matches!(self.outcome(request), Outcome::Unknown | Outcome::Moved)
     }
 }

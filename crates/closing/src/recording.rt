@@ -3,7 +3,7 @@
 
 ghost use Rattle.std.specs.Prelude.{◌≡◌, ◌<◌, ◌≤◌, ◌==◌, ◌+◌, ◌^◌, ℕ, true, [], length, map, replicate, slice_get, option_and_then, option_map, Option, List, IfErr, IfOk, OnOk, Some, None, flat_map};
 ghost use Rattle.std.specs.Option.{option_copied};
-ghost use Rattle.closing.specs.Entries.{lines_in};
+ghost use Rattle.closing.specs.Entries.{is_cut_off, is_window, journal_at, lines_at, lines_in};
 ghost use Rattle.closing.specs.Fit.{IsFit};
 ghost use Rattle.closing.specs.Freed.{starts_freed};
 ghost use Rattle.closing.specs.Groups.{groups_in};
@@ -12,16 +12,22 @@ ghost use Rattle.closing.specs.Recording.{recording_of};
 ghost use Rattle.journals.specs.declared.journal.Journal.{Journal as JournalRead};
 ghost use Rattle.closing.specs.declared.choice.Choice.{Choice as ChoiceMade};
 ghost use Rattle.closing.specs.inner.Numbered.{IsNumberedRun};
+ghost use Rattle.closing.specs.inner.RequestReports.{Tells};
 ghost use Rattle.closing.specs.inner.Rankwise.{AreFew, HaveWalks, IsRecording, TakesStep};
 ghost use Rattle.closing.specs.Left.{left_by, left_said};
+ghost use Rattle.closing.specs.Moved.{moved_at};
 ghost use Rattle.closing.specs.Pending.{pending_of, sinks_of, pending_said};
 ghost use Rattle.closing.specs.Recordings.{ChangesOnly, HasRanks, IsPartMade, calls_waiting, choice_in, count_at, left_in, line_at, list_at};
 
 use crate::choice::Choice;
+use crate::last::{are_cut_off, is_cut_off};
+use crate::moved::moved_at;
 use crate::numbers::Communicators;
+use crate::outcomes::Outcomes;
 use crate::pending::{Pending, Sink};
 use crate::places::checked_rank;
 use crate::walk::{Left, Walk};
+use journals::field::Field;
 use journals::journal::Journal;
 use journals::lines::Lines;
 use mpicall::record::Record;
@@ -186,6 +192,40 @@ impl Recording {
         ensures all { HasRanks self.now }
     {
         self.ranks
+    }
+
+    /// Whether the journals of all ranks end where nothing is under way.
+    pub fn is_window(&self) -> bool
+        ensures { result ≡ is_window self.now.run }
+    {
+        are_cut_off(self.journals.as_slice())
+    }
+
+    /// Whether that of a rank does.
+    pub fn is_cut_off(&self, rank: u16) -> bool
+        ensures { result ≡ is_cut_off (journal_at self.now.run rank) }
+    {
+        is_cut_off(journal_of(&self.journals, rank))
+    }
+
+    /// What came of the requests of a rank's journal.
+    pub fn outcomes(&self, alloc: Global, rank: u16) -> Result<Outcomes, AllocError>
+        ensures { IfOk result (λ outcomes. IsFit self.now.run self.now.choice → rank < length self.now.run → Tells (lines_at self.now.run rank) outcomes) }
+    {
+        match journal_of(&self.journals, rank) {
+            Some(journal) => Outcomes::of(alloc, &journal.lines),
+            None => Ok(Outcomes::empty(alloc)),
+        }
+    }
+
+    /// The source and the tag of the receive that the line with a number starts, where its request is moved.
+    pub fn moved(&self, outcomes: &Outcomes, rank: u16, number: u32) -> Option<(Field, Field)>
+        ensures { Tells (lines_at self.now.run rank) outcomes.now → result ≡ moved_at (lines_at self.now.run rank) number }
+    {
+        match journal_of(&self.journals, rank) {
+            Some(journal) => moved_at(outcomes, &journal.lines, number),
+            None => None,
+        }
     }
 
     /// The communicators that have a number.

@@ -7,10 +7,12 @@ ghost use Rattle.closing.specs.Called.{naturals_in};
 ghost use Rattle.closing.specs.Entry.{ids_of};
 ghost use Rattle.closing.specs.Steps.{Own};
 ghost use Rattle.closing.specs.inner.RequestReports.{AllStandFor, AreReadable, Tells};
-ghost use Rattle.closing.specs.inner.Outcomes.{is_gone, is_settled, message_by, outcome_at};
+ghost use Rattle.closing.specs.inner.Outcomes.{is_gone, is_left_out, is_settled, message_by, outcome_at};
 ghost use Rattle.closing.specs.inner.Standings.{id_in, ids_in, message_for};
-ghost use Rattle.closing.specs.inner.Views.{message_view};
+ghost use Rattle.closing.specs.Reported.{unless_moved};
+ghost use Rattle.closing.specs.inner.Views.{awaited_view, message_view};
 
+use crate::called::Awaited;
 use crate::message::Message;
 use crate::outcomes::Outcomes;
 use journals::field::Field;
@@ -88,6 +90,27 @@ impl Standing {
         self.outcomes.is_gone(request)
     }
 
+    /// Whether waits leave the request out.
+    pub(crate) fn is_left_out(&self, request: u32) -> bool
+        ensures { result ≡ is_left_out (outcome_at self.now.outcomes request) }
+    {
+        self.outcomes.is_left_out(request)
+    }
+
+    /// What a started receive awaits; that of a moved request nobody.
+    pub(crate) fn unless_moved(&self, request: u32, awaited: &Awaited) -> Awaited
+        ensures { (lines : List Line) → Tells lines self.now.outcomes → awaited_view result ≡ unless_moved lines request (awaited_view awaited.now) }
+    {
+        if self.outcomes.is_moved(request) {
+            return Awaited {
+                comm: awaited.comm,
+                source: Field::Null,
+                tag: Field::Signed(0),
+            };
+        }
+        *awaited
+    }
+
     pub(crate) fn is_settled(&self, request: u32) -> bool
         ensures { result ≡ is_settled (outcome_at self.now.outcomes request) }
     {
@@ -101,19 +124,19 @@ impl Standing {
         self.message_or(request, request)
     }
 
-    /// Adds what a request is in the trace at the end of a list, unless it was cancelled.
+    /// Adds what a request is in the trace at the end of a list, unless waits leave it out.
     fn push_id(&self, field: Field, into: &mut Vec<u32>) -> Result<(), AllocError>
         ensures { OnOk result (into.new.items ≡ into.old.items ++ ids_in self.now (field ∷ [])) }
     {
         if let Field::Natural(request) = field {
-            if !self.is_gone(request) {
+            if !self.is_left_out(request) {
                 into.push(self.id_of(request))?;
             }
         }
         Ok(())
     }
 
-    /// Puts what some requests are in the trace into a list, but those that were cancelled.
+    /// Puts what some requests are in the trace into a list, but those that waits leave out.
     #[tactic(auto, using(crate::proofs::StandingLemmas::ids_step, crate::proofs::RequestReportLemmas::ids_told))]
     pub(crate) fn find(&self, requests: &[Field], into: &mut Vec<u32>) -> Result<(), AllocError>
         ensures ids { OnOk result (into.new.items ≡ ids_in self.now requests.now) }

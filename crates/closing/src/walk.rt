@@ -171,14 +171,15 @@ fn call_at(lines: &Lines, line: u32) -> Option<CallWord>
     }
 }
 
-/// Why a call ends the list whatever is reported of it.
-fn breaks_off(it: &Called<'_>) -> Option<Why>
-    ensures { result ≡ breaks_off (called_view it.now) }
+/// Why a call ends the list whatever is reported of it; a cut does unless the run is a window.
+fn breaks_off(is_window: bool, it: &Called<'_>) -> Option<Why>
+    ensures { result ≡ breaks_off is_window (called_view it.now) }
 {
     match it {
         Called::Stops => Some(Why::Stopped),
         Called::Aborts => Some(Why::Aborted),
         Called::Fills => Some(Why::Full),
+        Called::Cuts => { if is_window { None } else { Some(Why::Cut) } }
         _ => None,
     }
 }
@@ -186,7 +187,7 @@ fn breaks_off(it: &Called<'_>) -> Option<Why>
 fn is_end(it: &Called<'_>) -> bool
     ensures { result ≡ is_end (called_view it.now) }
 {
-    matches!(it, Called::Finalizes | Called::Exits)
+    matches!(it, Called::Finalizes | Called::Exits | Called::Cuts)
 }
 
 /// The fields of a line, where there is one.
@@ -498,7 +499,7 @@ impl Walk {
             result handed progress run.old.keys run.new.keys entry.now.reports.end self.new }
     {
         let it = read_call(entry.word, lines.fields(entry.place));
-        if let Some(why) = breaks_off(&it) {
+        if let Some(why) = breaks_off(run.is_window, &it) {
             return Err(Stop::Left(why));
         }
         if is_end(&it) {
@@ -605,14 +606,18 @@ impl Walk {
             Called::Sends(mode, sent) => self.sends(at, *mode, sent),
             Called::StartsSend(own, mode, sent) => self.starts_send(at, *own, *mode, sent),
             Called::Receives(awaited) => self.receives(at, awaited),
-            Called::StartsReceive(own, awaited) => self.starts_receive(lines, at, *own, awaited),
+            Called::StartsReceive(own, awaited) => {
+                let awaited = self.requests.unless_moved(*own, awaited);
+                self.starts_receive(lines, at, *own, &awaited)
+            }
             Called::Exchanges(sent, awaited) => self.exchanges(at, sent, awaited),
             Called::StartsExchange(own, other, sent, awaited) => {
+                let awaited = self.requests.unless_moved(*other, awaited);
                 let halves = Halves {
                     own: *own,
                     other: *other,
                     sent: *sent,
-                    awaited: *awaited,
+                    awaited,
                 };
                 self.starts_exchange(lines, at, &halves)
             }

@@ -25,6 +25,9 @@ pub enum Why {
     Aborted,
     #[error("full")]
     Full,
+    /// The journal of another rank goes on after the cut.
+    #[error("cut")]
+    Cut,
     /// It may have taken what another receive took.
     #[error("not judged")]
     NotJudged,

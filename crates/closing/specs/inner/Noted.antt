@@ -2,6 +2,7 @@
 use Rattle.std.specs.Prelude.{◌≡◌, ℕ, ◌+◌, ◌≤◌, Bool, true, false, ◌||◌, not, ◌==◌, Option, Some, None, List, length, drop, slice_get}
 use Rattle.std.specs.List.{list_any, find}
 use Rattle.journals.specs.Lines.{Line}
+use Rattle.journals.specs.Faults.{is_cut}
 use Rattle.journals.specs.Words.{is_call}
 use Rattle.journals.specs.Taking.{word_at}
 use Rattle.journals.specs.Entries.{listing_of}
@@ -36,6 +37,10 @@ report_if _ = None
 abbrev pub call_if : Option Word → Option CallWord
 call_if (Some (Call word)) = Some word
 call_if _ = None
+
+abbrev pub is_cut_if : Option CallWord → Bool
+is_cut_if None = false
+is_cut_if (Some word) = is_cut word
 
 -- ---- The reports of an entry ----
 

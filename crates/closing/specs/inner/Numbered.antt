@@ -3,7 +3,7 @@ use Rattle.std.specs.Prelude.{◌≡◌, ℕ, ◌<◌, ◌&&◌, ◌==◌, Bool,
 use Rattle.std.specs.List.{AllZip, filter_map, flat_map, list_any}
 use Rattle.std.specs.HashSet.{contains_by}
 use Rattle.closing.specs.Keys.{Key, World, group_of_key, is_key_among}
-use Rattle.closing.specs.Entries.{Run, entries_at, ranks_of}
+use Rattle.closing.specs.Entries.{Run, entries_at, is_window, ranks_of}
 use Rattle.closing.specs.FitComms.{HasFitComms}
 use Rattle.closing.specs.Made.{inferred_key}
 use Rattle.closing.specs.Numbers.{number_of, numbered_keys, preface_lines}
@@ -83,6 +83,7 @@ pub record HasPreface (run : Run) (it : Preface) (count : ℕ) : Type 0 where
 -- what is kept is what the journals say, also where the table has grown since
 pub record IsNumberedRun (run : Run) (it : Communicators) : Type 0 where
   pub fit : HasFitComms run
+  pub window : it.is_window ≡ is_window run
   pub table : IsTable it.keys
   pub ranks : ranks_in it.keys ≡ length run
   pub numbered : AllZip (HasKey it.keys) it.numbered.items (numbered_keys run)

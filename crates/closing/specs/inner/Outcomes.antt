@@ -11,7 +11,7 @@ use Rattle.journals.specs.declared.word.ReportWord.TheVariants as report
 use Rattle.journals.specs.Taking.{fields_at}
 use Rattle.closing.specs.Reported.{Message, message_in}
 use Rattle.closing.specs.declared.outcomes.Outcome.{Outcome}
-use Rattle.closing.specs.declared.outcomes.Outcome.TheVariants.{Unknown, Done, Gone, Kept}
+use Rattle.closing.specs.declared.outcomes.Outcome.TheVariants.{Unknown, Done, Gone, Kept, Moved}
 use Rattle.closing.specs.declared.outcomes.Outcomes.{Outcomes}
 
 -- what is kept of a request, if anything
@@ -32,6 +32,7 @@ abbrev pub outcome_in : ReportWord → ℕ → Option Outcome
 outcome_in report.Done line = Some (Done line)
 outcome_in report.Gone line = Some Gone
 outcome_in report.Kept line = Some Kept
+outcome_in report.Moved line = Some Moved
 outcome_in word line = None
 
 -- what came of a request after a report at a place
@@ -62,8 +63,19 @@ abbrev pub is_gone : Outcome → Bool
 is_gone Gone = true
 is_gone outcome = false
 
+abbrev pub is_moved : Outcome → Bool
+is_moved Moved = true
+is_moved outcome = false
+
+-- waits leave the request out
+abbrev pub is_left_out : Outcome → Bool
+is_left_out Gone = true
+is_left_out Moved = true
+is_left_out outcome = false
+
 abbrev pub is_settled : Outcome → Bool
 is_settled Unknown = false
+is_settled Moved = false
 is_settled outcome = true
 
 -- the message of the fields of a report after its request

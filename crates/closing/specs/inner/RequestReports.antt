@@ -22,6 +22,8 @@ pub record AreReadable (lines : List Line) : Type 0 where
 pub record Tells (lines : List Line) (it : Outcomes) : Type 0 where
   pub done : (request : ℕ) → message_by lines (outcome_at it request) ≡ done_of lines request
   pub gone : (request : ℕ) → kept.is_gone (outcome_at it request) ≡ say.is_gone lines request
+  pub moved : (request : ℕ) → kept.is_moved (outcome_at it request) ≡ say.is_moved lines request
+  pub left_out : (request : ℕ) → kept.is_left_out (outcome_at it request) ≡ say.is_left_out lines request
   pub settled : (request : ℕ) → kept.is_settled (outcome_at it request) ≡ say.is_settled lines request
 
 -- what is kept of a request in the trace is what these lines say: itself, or the message that it takes

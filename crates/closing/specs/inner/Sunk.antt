@@ -16,7 +16,7 @@ use Rattle.closing.specs.Endings.{sent_can_be}
 use Rattle.closing.specs.Entry.{id_of, ids_of, start_send}
 use Rattle.closing.specs.Fit.{AllFit, steps_in}
 use Rattle.closing.specs.Pending.{PendingCall, for_all, sinks_from, unknown, pending_said}
-use Rattle.closing.specs.Reported.{Message, done_of, is_gone, message_can_be, message_of, peer_can_be, tag_can_be}
+use Rattle.closing.specs.Reported.{Message, done_of, is_gone, is_left_out, message_can_be, message_of, peer_can_be, tag_can_be, unless_moved}
 use Rattle.closing.specs.Sinks.{Outcome, GoesOn, Ends, ends, is_met, is_nobody, sink_for, wanted_by}
 use Rattle.closing.specs.Steps.{Whole, Sink, Progress, Step, Starts, Written, after_step, after_steps, least_free, number_in}
 use Rattle.closing.specs.inner.Lists.{Handed, IsCut, Stands}
@@ -162,12 +162,12 @@ starts_exchange_sunk spot own other sent awaited message records = option_and_th
 -- what the sink of a request may take, and what a pending wait waits for by a request, as they are kept
 abbrev pub sink_at : Standing → Sinks → Field → Option Wanted
 sink_at standing sinks (Natural request) =
-    if kept.is_gone (outcome_at standing.outcomes request) then None else named_in sinks (id_in standing request)
+    if kept.is_left_out (outcome_at standing.outcomes request) then None else named_in sinks (id_in standing request)
 sink_at standing sinks field = None
 
 abbrev pub active_at : Standing → ListCode → Field → Option Item
 active_at standing list (Natural request) =
-    if kept.is_gone (outcome_at standing.outcomes request) then None
+    if kept.is_left_out (outcome_at standing.outcomes request) then None
     else option_map (λ active. item.Request active.number) (get nat_eq list.active (id_in standing request))
 active_at standing list field = None
 
@@ -192,10 +192,11 @@ chooses_sunk spot came_back requests records =
 abbrev pub sunk_on : Spot → Bool → List Written → Called → Option Outcome
 sunk_on spot came_back records (Receives awaited) =
     blocks_sunk spot came_back (leaves.Sink None) awaited (message_of awaited spot.got) records
-sunk_on spot came_back records (StartsReceive own awaited) = starts_receive_sunk spot own awaited (message_of awaited (done_of spot.lines own)) records
+sunk_on spot came_back records (StartsReceive own awaited) =
+    starts_receive_sunk spot own (unless_moved spot.lines own awaited) (message_of (unless_moved spot.lines own awaited) (done_of spot.lines own)) records
 sunk_on spot came_back records (Exchanges sent awaited) = exchanges_sunk spot came_back sent awaited (message_of awaited spot.got) records
 sunk_on spot came_back records (StartsExchange own other sent awaited) =
-    starts_exchange_sunk spot own other sent awaited (message_of awaited (done_of spot.lines other)) records
+    starts_exchange_sunk spot own other sent (unless_moved spot.lines other awaited) (message_of (unless_moved spot.lines other awaited) (done_of spot.lines other)) records
 sunk_on spot came_back records (Probes awaited) =
     blocks_sunk spot came_back leaves.Nothing awaited (message_of awaited spot.got) records
 sunk_on spot came_back records (ProbesMatching own awaited) =
@@ -225,7 +226,7 @@ exchange_pending wanted progress =
 
 abbrev pub item_in : List Line → Progress → ℕ → Option Item
 item_in lines progress request =
-    if is_gone lines request then None
+    if is_left_out lines request then None
     else or_else (option_map (λ wanted. item.Message wanted) (sink_for progress.records (id_of lines request)))
     (option_map (λ number. item.Request number) (number_in progress.active (id_of lines request)))
 

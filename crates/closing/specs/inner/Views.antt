@@ -50,6 +50,7 @@ called_view code.Exits = say.Exits
 called_view code.Aborts = say.Aborts
 called_view code.Fills = say.Fills
 called_view code.Stops = say.Stops
+called_view code.Cuts = say.Cuts
 
 -- the message of a receive or probe that has a source
 abbrev pub message_with_source : Awaited → Option Message → Option Message

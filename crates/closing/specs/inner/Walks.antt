@@ -12,7 +12,7 @@ use Rattle.journals.specs.Known.{report_of, requests_in}
 use Rattle.journals.specs.declared.word.ReportWord.TheVariants as report
 use Rattle.closing.specs.Called.{Called, Sent, Awaited, Sends, StartsSend, Receives, StartsReceive, Exchanges, StartsExchange, Probes, ProbesMatching, ReceivesMatched, Waits, Tests, WaitsAny, WaitsSome, Cancels, Collects, StartsCollective, Duplicates, Splits, Makes, StartsDuplicate, MakesOfGroup}
 use Rattle.closing.specs.Entries.{Run, Placed}
-use Rattle.closing.specs.Reported.{Message, done_of, got_in, is_gone, is_settled, message_of, root_can_be}
+use Rattle.closing.specs.Reported.{Message, done_of, got_in, is_gone, is_settled, message_of, root_can_be, unless_moved}
 use Rattle.closing.specs.Steps.{Own, Whole, ReceiveHalf, Step, Does, Starts}
 use Rattle.closing.specs.Endings.{size_at, number_at, sent_can_be, awaited_can_be}
 use Rattle.closing.specs.Entry.{Choice, send, start_send, receive, start_receive, exchange, probe, start_collective, kind_of, is_past, maker, unless_past, wait_for_all, wait_for_any, test}
@@ -180,9 +180,10 @@ abbrev pub outcome_on : Choice → Spot → Called → Outcome
 outcome_on choice spot (Sends mode sent) = sends_on spot mode sent
 outcome_on choice spot (StartsSend request mode sent) = starts_send_on spot request mode sent
 outcome_on choice spot (Receives awaited) = receives_on spot awaited
-outcome_on choice spot (StartsReceive request awaited) = starts_receive_on spot request awaited
+outcome_on choice spot (StartsReceive request awaited) = starts_receive_on spot request (unless_moved spot.lines request awaited)
 outcome_on choice spot (Exchanges sent awaited) = exchanges_on spot sent awaited
-outcome_on choice spot (StartsExchange request received sent awaited) = starts_exchange_on spot request received sent awaited
+outcome_on choice spot (StartsExchange request received sent awaited) =
+    starts_exchange_on spot request received sent (unless_moved spot.lines received awaited)
 outcome_on choice spot (Probes awaited) = probes_on spot awaited
 outcome_on choice spot (ProbesMatching message awaited) = probes_matching_on spot message awaited
 outcome_on choice spot (ReceivesMatched message) = waits_on spot (message ∷ [])

@@ -8,7 +8,7 @@ ghost use Rattle.journals.specs.Known.{has_report};
 ghost use Rattle.journals.specs.declared.word.ReportWord.TheVariants.{Failed};
 ghost use Rattle.closing.specs.Called.{naturals_in};
 ghost use Rattle.closing.specs.Endings.{breaks_off};
-ghost use Rattle.closing.specs.Entries.{Placed, Run};
+ghost use Rattle.closing.specs.Entries.{Placed, Run, is_window};
 ghost use Rattle.closing.specs.Fit.{AllFit, steps_in};
 ghost use Rattle.closing.specs.Pending.{PendingCall, unknown, pending_said};
 ghost use Rattle.closing.specs.Recording.{outcome_in};
@@ -142,7 +142,7 @@ fn sink_of(standing: &Standing, sinks: &Sinks, field: Field) -> Option<Wanted>
     ensures { result ≡ sink_at standing.now sinks.now field }
 {
     match field {
-        Field::Natural(request) if !standing.is_gone(request) => {
+        Field::Natural(request) if !standing.is_left_out(request) => {
             sinks.named(standing.id_of(request))
         }
         _ => None,
@@ -162,7 +162,7 @@ fn active_of(standing: &Standing, list: &List, field: Field) -> Option<Item>
     ensures { result ≡ active_at standing.now list.now field }
 {
     match field {
-        Field::Natural(request) if !standing.is_gone(request) => {
+        Field::Natural(request) if !standing.is_left_out(request) => {
             let active = list.active(standing.id_of(request))?;
             Some(Item::Request(active.number))
         }
@@ -232,7 +232,7 @@ impl Walk {
         ensures same { self.new ≡ record self.old { list = self.new.list; sinks = self.new.sinks; pending = self.new.pending; left_out = self.new.left_out } }
         ensures taken { (said : Run) (placed : Placed) (kept : Communicators) (handed : Handed) (progress : Progress) →
             IsAtEntry said (choice_in self.old.choice) placed kept at.now → placed.journal.lines ≡ lines.now → placed.line ≡ self.old.line → placed.called ≡ called_view it.now →
-            breaks_off placed.called ≡ None → has_report Failed placed.entry ≡ false → IsBack placed → Meets (spot_of said (choice_in self.old.choice) placed) lines.now self.old.requests at.now it.now →
+            breaks_off (is_window said) placed.called ≡ None → has_report Failed placed.entry ≡ false → IsBack placed → Meets (spot_of said (choice_in self.old.choice) placed) lines.now self.old.requests at.now it.now →
             AllFit progress placed.line (steps_in (outcome_in said (choice_in self.old.choice) progress.records placed)) →
             Stands handed progress self.old.list → IsKept progress.records self.old →
             IsTakenBy said (choice_in self.old.choice) placed result handed progress self.new }
@@ -253,15 +253,17 @@ impl Walk {
         match it {
             Called::Receives(awaited) => self.blocks_sink(at, awaited, Leaves::Sink(None)),
             Called::StartsReceive(own, awaited) => {
-                self.starts_receive_sink(lines, at, *own, awaited)
+                let awaited = self.requests.unless_moved(*own, awaited);
+                self.starts_receive_sink(lines, at, *own, &awaited)
             }
             Called::Exchanges(sent, awaited) => self.exchanges_sink(at, sent, awaited),
             Called::StartsExchange(own, other, sent, awaited) => {
+                let awaited = self.requests.unless_moved(*other, awaited);
                 let halves = Halves {
                     own: *own,
                     other: *other,
                     sent: *sent,
-                    awaited: *awaited,
+                    awaited,
                 };
                 self.starts_exchange_sink(lines, at, &halves)
             }

@@ -11,7 +11,7 @@ use Rattle.closing.proofs.numbers.communicators_of.Goals as goal
 
 pub returns : goal.returns
 returns c =
-    λ run ranks fit s.
+    λ run ranks fit s window.
     let survey = c.args.survey in
     let it = c.in_ok-numbering.numbering in
     let of = c.in_ok-numbering.ensures in
@@ -26,4 +26,4 @@ returns c =
     let brings = subst (λ (xs : List ℕ). AreBelow (length survey.keys.codes) xs → (wave : WaveCode) → contains_by (same_wave wave) c.in_ok-bringing.bringing ≡ brings_at survey.keys xs wave) list c.in_ok-bringing.ensures in
     let lines = subst (λ (r : ℕ). 0 < length it.numbered.items → AreBelow (length survey.keys.codes) it.numbered.items → AreGroupsOf survey.keys r it.numbered.items → IsPreface preface (length it.numbered.items) (put_all (seated_from survey.keys 1 (drop 1 it.numbered.items)) [])) ranks
     (subst (λ (xs : List ℕ). 0 < length xs → AreBelow (length survey.keys.codes) xs → AreGroupsOf survey.keys c.args.ranks xs → IsPreface preface (length xs) (put_all (seated_from survey.keys 1 (drop 1 xs)) [])) list c.in_ok-preface.ensures.lines) in
-    run_kept run survey _ it.numbers.items fit s refl refl room of.numbering given by brings (c.in_ok-preface.ensures.ranks ∙ ranks) lines
+    run_kept run survey _ it.numbers.items fit s refl refl room of.numbering given by brings (c.in_ok-preface.ensures.ranks ∙ ranks) lines window

@@ -6,7 +6,7 @@ use Rattle.closing.specs.inner.Views.{called_view}
 use Rattle.closing.specs.Recordings.{choice_in}
 use Rattle.closing.specs.declared.called.Called.{Called}
 use Rattle.closing.specs.declared.walk.Walk.{Walk}
-use Rattle.closing.proofs.TakeLemmas.{messages_as, late_as, others_on_none, takes_as}
+use Rattle.closing.proofs.TakeLemmas.{exchanges_as, receives_as, messages_as, late_as, others_on_none, takes_as}
 use Rattle.closing.proofs.WaitingLemmas.{both_ok, on_ok}
 use Rattle.closing.proofs.walk.Walk.take.Goals as goal
 
@@ -55,7 +55,7 @@ returns-in-Receives-clause-messages c = on_ok _ c.receives.result (messages_as c
 pub returns-in-StartsReceive-clause-takes : goal.returns-in-StartsReceive-clause-takes
 returns-in-StartsReceive-clause-takes c = λ spot meets makes.
     takes_as (choice_in c.args.self.now.choice) spot c.args.it.now _ c.starts_receive.result c.args.self.now.list c.starts_receive.new.self.list c.in-StartsReceive.is
-    (c.starts_receive.ensures.takes spot meets.at meets.lines meets.tells)
+    (receives_as spot _ _ _ c.starts_receive.result c.args.self.now.list c.starts_receive.new.self.list (c.unless_moved-awaited.ensures spot.lines meets.tells) (c.starts_receive.ensures.takes spot meets.at meets.lines meets.tells))
 
 pub returns-in-StartsReceive-clause-late : goal.returns-in-StartsReceive-clause-late
 returns-in-StartsReceive-clause-late c = on_ok _ c.starts_receive.result (λ spot meets.
@@ -83,7 +83,7 @@ returns-in-Exchanges-clause-messages c = on_ok _ c.exchanges.result (messages_as
 pub returns-in-StartsExchange-clause-takes : goal.returns-in-StartsExchange-clause-takes
 returns-in-StartsExchange-clause-takes c = λ spot meets makes.
     takes_as (choice_in c.args.self.now.choice) spot c.args.it.now _ c.starts_exchange.result c.args.self.now.list c.starts_exchange.new.self.list c.in-StartsExchange.is
-    (c.starts_exchange.ensures.takes spot meets.at meets.lines meets.tells)
+    (exchanges_as spot _ _ _ _ _ c.starts_exchange.result c.args.self.now.list c.starts_exchange.new.self.list (c.unless_moved-awaited-in-StartsExchange.ensures spot.lines meets.tells) (c.starts_exchange.ensures.takes spot meets.at meets.lines meets.tells))
 
 pub returns-in-StartsExchange-clause-late : goal.returns-in-StartsExchange-clause-late
 returns-in-StartsExchange-clause-late c = on_ok _ c.starts_exchange.result (λ spot meets.

@@ -7,6 +7,7 @@ use Rattle.journals.specs.declared.field.Field.{Field}
 use Rattle.journals.specs.declared.word.ReportWord.TheVariants as report
 use Rattle.closing.specs.Called.{called, naturals_in}
 use Rattle.closing.specs.Endings.{breaks_off}
+use Rattle.closing.specs.Entries.{is_window}
 use Rattle.closing.specs.Entry.{Choice, matched_message}
 use Rattle.closing.specs.Fit.{AllFit, AreNumbers, steps_in}
 use Rattle.closing.specs.Recording.{is_end, outcome_in, outcome_of}
@@ -57,10 +58,10 @@ returns-in-Some-clause-entered c = λ said heading handed progress before ready.
     let call = before.is_entry.call in
     let same : called_view it ≡ placed.called = c.read_call-it.ensures.says ∙ ap (called e.word) c.fields.ensures in
     let still = grows_same c.args.run.now.keys before.comms.table_is in
-    let breaks : breaks_off placed.called ≡ Some c.in-Some.why = ap breaks_off (sym same) ∙ sym c.breaks_off.ensures ∙ c.in-Some.is in
+    let breaks : breaks_off (is_window said) placed.called ≡ Some c.in-Some.why = ap (λ (w : Bool). breaks_off w placed.called) (sym before.numbered.window) ∙ ap (breaks_off c.args.run.now.is_window) (sym same) ∙ sym c.breaks_off.ensures ∙ c.in-Some.is in
     let plain = broken_plain said choice progress.records placed c.in-Some.why breaks in
     let is = plain ∙ broken_is said choice placed c.in-Some.why breaks in
-    let why = broken_why placed.called c.in-Some.why breaks in
+    let why = broken_why (is_window said) placed.called c.in-Some.why breaks in
     is_stopped said choice placed handed progress c.args.run.now.keys c.args.run.now.keys e.reports.end s (Err (Left c.in-Some.why)) (Left c.in-Some.why) refl
     (subst (λ (one : Outcome). Entered (Err (Left c.in-Some.why)) one handed progress placed.line s.list) (sym plain) (breaks_entered said choice placed c.in-Some.why handed progress s.list breaks ready.stands))
     (λ other found. let one : c.in-Some.why ≡ other = cc (found) in
@@ -81,6 +82,7 @@ returns-in_err-waits_for-clause-entered c = λ said heading handed progress befo
     let same : called_view it ≡ placed.called = c.read_call-it.ensures.says ∙ ap (called e.word) c.fields.ensures in
     let still = grows_same c.args.run.now.keys before.comms.table_is in
     let is : is_end placed.called ≡ true = ap is_end (sym same) ∙ sym c.is_end.ensures ∙ c.if-is_end.true in
+    let broken : breaks_off (is_window said) placed.called ≡ None = ap (λ (w : Bool). breaks_off w placed.called) (sym before.numbered.window) ∙ ap (breaks_off c.args.run.now.is_window) (sym same) ∙ sym c.breaks_off.ensures ∙ none_of c.breaks_off.result c.in_default.not-Some in
     let failed = ends_well said choice journal s.rank e.place e.word ready.fit before.there call is in
     let plain = end_plain said choice progress.records placed is in
     let ids = map Own c.as_slice.result.now in
@@ -92,11 +94,11 @@ returns-in_err-waits_for-clause-entered c = λ said heading handed progress befo
     (c.waits_for.ensures handed progress placed.line ready.stands) in
     let few : length progress.records < MOST_RECORDS = omega (arith, ready.stands.count, ready.stands.short) in
     let entered : Entered (Err stop) (outcome_in said choice progress.records placed) handed progress placed.line list =
-    (subst (λ (one : Outcome). Entered (Err stop) one handed progress placed.line list) (sym plain) (end_stops (Unit {0}) said choice placed handed progress ids stop list is failed (ap (map Own) c.as_slice.ensures.value ∙ ready.late) comes)) in
+    (subst (λ (one : Outcome). Entered (Err stop) one handed progress placed.line list) (sym plain) (end_stops (Unit {0}) said choice placed handed progress ids stop list broken is failed (ap (map Own) c.as_slice.ensures.value ∙ ready.late) comes)) in
     is_stopped said choice placed handed progress c.args.run.now.keys c.args.run.now.keys e.reports.end (record s { list = list }) c.from_residual.result stop
     (residual c.from_residual.result stop c.from_residual.ensures.1) entered
     (λ why found. final_stops said choice placed progress (record s { list = list }) kept (outcome_in said choice progress.records placed) handed (WaitsForLate ∷ []) Finalize why
-    (subst (λ (one : Outcome). StartNone (steps_in one)) (sym plain) (outcome_unsunk said choice placed)) few (plain ∙ ended_is said choice placed is failed)
+    (subst (λ (one : Outcome). StartNone (steps_in one)) (sym plain) (outcome_unsunk said choice placed)) few (plain ∙ ended_is said choice placed broken is failed)
     (subst (λ (one : Stop). Entered (Err one) (outcome_in said choice progress.records placed) handed progress placed.line list) found entered))
     (λ some. still)
 
@@ -113,6 +115,7 @@ returns-then-is_end-clause-entered c = λ said heading handed progress before re
     let same : called_view it ≡ placed.called = c.read_call-it.ensures.says ∙ ap (called e.word) c.fields.ensures in
     let still = grows_same c.args.run.now.keys before.comms.table_is in
     let is : is_end placed.called ≡ true = ap is_end (sym same) ∙ sym c.is_end.ensures ∙ c.if-is_end.true in
+    let broken : breaks_off (is_window said) placed.called ≡ None = ap (λ (w : Bool). breaks_off w placed.called) (sym before.numbered.window) ∙ ap (breaks_off c.args.run.now.is_window) (sym same) ∙ sym c.breaks_off.ensures ∙ none_of c.breaks_off.result c.in_default.not-Some in
     let failed = ends_well said choice journal s.rank e.place e.word ready.fit before.there call is in
     let plain = end_plain said choice progress.records placed is in
     let ids = map Own c.as_slice.result.now in
@@ -122,7 +125,7 @@ returns-then-is_end-clause-entered c = λ said heading handed progress before re
     subst (λ (r : Result (Unit {0}) Stop). ComesTo {A = Unit {0}} r handed (after_step progress placed.line (WaitsForAll ids)) placed.line list) c.in_ok-waits_for.was
     (c.waits_for.ensures handed progress placed.line ready.stands) in
     is_done said choice placed handed progress c.args.run.now.keys c.args.run.now.keys e.reports.end (record s { list = list })
-    (subst (λ (one : Outcome). Entered (Ok true) one handed progress placed.line list) (sym plain) (end_entered said choice placed handed progress ids list is failed (ap (map Own) c.as_slice.ensures.value ∙ ready.late) stands))
+    (subst (λ (one : Outcome). Entered (Ok true) one handed progress placed.line list) (sym plain) (end_entered said choice placed handed progress ids list broken is failed (ap (map Own) c.as_slice.ensures.value ∙ ready.late) stands))
     (λ steps end why goes. kept_steps (record s { list = list }) placed.line progress steps
     (subst (λ (one : Outcome). StartNone (steps_in one)) (sym plain ∙ goes) (outcome_unsunk said choice placed)) kept)
     still
@@ -139,9 +142,9 @@ returns-then-entry-clause-entered c = λ said heading handed progress before rea
     let call = before.is_entry.call in
     let same : called_view it ≡ placed.called = c.read_call-it.ensures.says ∙ ap (called e.word) c.fields.ensures in
     let still = grows_same c.args.run.now.keys before.comms.table_is in
-    let broken : breaks_off placed.called ≡ None = ap breaks_off (sym same) ∙ sym c.breaks_off.ensures ∙ none_of c.breaks_off.result c.in_default.not-Some in
+    let broken : breaks_off (is_window said) placed.called ≡ None = ap (λ (w : Bool). breaks_off w placed.called) (sym before.numbered.window) ∙ ap (breaks_off c.args.run.now.is_window) (sym same) ∙ sym c.breaks_off.ensures ∙ none_of c.breaks_off.result c.in_default.not-Some in
     let going : is_end placed.called ≡ false = ap is_end (sym same) ∙ sym c.is_end.ensures ∙ c.if-is_end.false in
-    let past = past_both placed.called broken going in
+    let past = past_both (is_window said) placed.called broken going in
     let failed : has_report report.Failed placed.entry ≡ true = sym before.is_entry.reports.has_failed ∙ c.if-entry.true in
     let plain = failed_plain said choice progress.records placed broken failed in
     is_stopped said choice placed handed progress c.args.run.now.keys c.args.run.now.keys e.reports.end s (Err (Left Failed)) (Left Failed) refl
@@ -174,9 +177,9 @@ returns-in_err-is_taken-clause-entered c = λ said heading handed progress befor
     let choice = choice_in s.choice in
     let call = before.is_entry.call in
     let same : called_view it ≡ placed.called = c.read_call-it.ensures.says ∙ ap (called e.word) c.fields.ensures in
-    let broken : breaks_off placed.called ≡ None = ap breaks_off (sym same) ∙ sym c.breaks_off.ensures ∙ none_of c.breaks_off.result c.in_default.not-Some in
+    let broken : breaks_off (is_window said) placed.called ≡ None = ap (λ (w : Bool). breaks_off w placed.called) (sym before.numbered.window) ∙ ap (breaks_off c.args.run.now.is_window) (sym same) ∙ sym c.breaks_off.ensures ∙ none_of c.breaks_off.result c.in_default.not-Some in
     let going : is_end placed.called ≡ false = ap is_end (sym same) ∙ sym c.is_end.ensures ∙ c.if-is_end.false in
-    let past = past_both placed.called broken going in
+    let past = past_both (is_window said) placed.called broken going in
     let failed : has_report report.Failed placed.entry ≡ false = sym before.is_entry.reports.has_failed ∙ c.if-entry.false in
     let one = c.at.new.self in
     let mid = c.takes_sink.new.self in
@@ -199,7 +202,7 @@ returns-in_err-is_taken-clause-entered c = λ said heading handed progress befor
     let all_fit = fits said choice journal s.rank e.place e.word ready.fit before.there call handed progress ready.entries ready.tests in
     let taken : IsTakenBy said choice placed c.takes_sink.result handed progress mid =
     subst (λ (made : Choice). IsAtEntry said made placed kept c.in_ok-at.at → placed.journal.lines ≡ lines → placed.line ≡ one.line → placed.called ≡ called_view it
-    → breaks_off placed.called ≡ None → has_report report.Failed placed.entry ≡ false → IsBack placed → Meets (spot_of said made placed) lines one.requests c.in_ok-at.at it
+    → breaks_off (is_window said) placed.called ≡ None → has_report report.Failed placed.entry ≡ false → IsBack placed → Meets (spot_of said made placed) lines one.requests c.in_ok-at.at it
     → AllFit progress placed.line (steps_in (outcome_in said made progress.records placed)) → Stands handed progress one.list → IsKept progress.records one
     → IsTakenBy said made placed c.takes_sink.result handed progress mid) choice_is (c.takes_sink.ensures.taken said placed kept handed progress)
     is_at refl line_is (sym same) broken failed (is_back s.rank journal e.place e.word) met all_fit stands sinks_kept in
@@ -220,9 +223,9 @@ returns-then-is_taken-clause-entered c = λ said heading handed progress before 
     let choice = choice_in s.choice in
     let call = before.is_entry.call in
     let same : called_view it ≡ placed.called = c.read_call-it.ensures.says ∙ ap (called e.word) c.fields.ensures in
-    let broken : breaks_off placed.called ≡ None = ap breaks_off (sym same) ∙ sym c.breaks_off.ensures ∙ none_of c.breaks_off.result c.in_default.not-Some in
+    let broken : breaks_off (is_window said) placed.called ≡ None = ap (λ (w : Bool). breaks_off w placed.called) (sym before.numbered.window) ∙ ap (breaks_off c.args.run.now.is_window) (sym same) ∙ sym c.breaks_off.ensures ∙ none_of c.breaks_off.result c.in_default.not-Some in
     let going : is_end placed.called ≡ false = ap is_end (sym same) ∙ sym c.is_end.ensures ∙ c.if-is_end.false in
-    let past = past_both placed.called broken going in
+    let past = past_both (is_window said) placed.called broken going in
     let failed : has_report report.Failed placed.entry ≡ false = sym before.is_entry.reports.has_failed ∙ c.if-entry.false in
     let one = c.at.new.self in
     let mid = c.takes_sink.new.self in
@@ -245,7 +248,7 @@ returns-then-is_taken-clause-entered c = λ said heading handed progress before 
     let all_fit = fits said choice journal s.rank e.place e.word ready.fit before.there call handed progress ready.entries ready.tests in
     let taken : IsTakenBy said choice placed c.takes_sink.result handed progress mid =
     subst (λ (made : Choice). IsAtEntry said made placed kept c.in_ok-at.at → placed.journal.lines ≡ lines → placed.line ≡ one.line → placed.called ≡ called_view it
-    → breaks_off placed.called ≡ None → has_report report.Failed placed.entry ≡ false → IsBack placed → Meets (spot_of said made placed) lines one.requests c.in_ok-at.at it
+    → breaks_off (is_window said) placed.called ≡ None → has_report report.Failed placed.entry ≡ false → IsBack placed → Meets (spot_of said made placed) lines one.requests c.in_ok-at.at it
     → AllFit progress placed.line (steps_in (outcome_in said made progress.records placed)) → Stands handed progress one.list → IsKept progress.records one
     → IsTakenBy said made placed c.takes_sink.result handed progress mid) choice_is (c.takes_sink.ensures.taken said placed kept handed progress)
     is_at refl line_is (sym same) broken failed (is_back s.rank journal e.place e.word) met all_fit stands sinks_kept in
@@ -282,9 +285,9 @@ returns-in_err-take-clause-entered c = λ said heading handed progress before re
     let choice = choice_in s.choice in
     let call = before.is_entry.call in
     let same : called_view it ≡ placed.called = c.read_call-it.ensures.says ∙ ap (called e.word) c.fields.ensures in
-    let broken : breaks_off placed.called ≡ None = ap breaks_off (sym same) ∙ sym c.breaks_off.ensures ∙ none_of c.breaks_off.result c.in_default.not-Some in
+    let broken : breaks_off (is_window said) placed.called ≡ None = ap (λ (w : Bool). breaks_off w placed.called) (sym before.numbered.window) ∙ ap (breaks_off c.args.run.now.is_window) (sym same) ∙ sym c.breaks_off.ensures ∙ none_of c.breaks_off.result c.in_default.not-Some in
     let going : is_end placed.called ≡ false = ap is_end (sym same) ∙ sym c.is_end.ensures ∙ c.if-is_end.false in
-    let past = past_both placed.called broken going in
+    let past = past_both (is_window said) placed.called broken going in
     let failed : has_report report.Failed placed.entry ≡ false = sym before.is_entry.reports.has_failed ∙ c.if-entry.false in
     let one = c.at.new.self in
     let mid = c.takes_sink.new.self in
@@ -307,7 +310,7 @@ returns-in_err-take-clause-entered c = λ said heading handed progress before re
     let all_fit = fits said choice journal s.rank e.place e.word ready.fit before.there call handed progress ready.entries ready.tests in
     let taken : IsTakenBy said choice placed c.takes_sink.result handed progress mid =
     subst (λ (made : Choice). IsAtEntry said made placed kept c.in_ok-at.at → placed.journal.lines ≡ lines → placed.line ≡ one.line → placed.called ≡ called_view it
-    → breaks_off placed.called ≡ None → has_report report.Failed placed.entry ≡ false → IsBack placed → Meets (spot_of said made placed) lines one.requests c.in_ok-at.at it
+    → breaks_off (is_window said) placed.called ≡ None → has_report report.Failed placed.entry ≡ false → IsBack placed → Meets (spot_of said made placed) lines one.requests c.in_ok-at.at it
     → AllFit progress placed.line (steps_in (outcome_in said made progress.records placed)) → Stands handed progress one.list → IsKept progress.records one
     → IsTakenBy said made placed c.takes_sink.result handed progress mid) choice_is (c.takes_sink.ensures.taken said placed kept handed progress)
     is_at refl line_is (sym same) broken failed (is_back s.rank journal e.place e.word) met all_fit stands sinks_kept in
@@ -359,9 +362,9 @@ returns-clause-entered c = λ said heading handed progress before ready.
     let choice = choice_in s.choice in
     let call = before.is_entry.call in
     let same : called_view it ≡ placed.called = c.read_call-it.ensures.says ∙ ap (called e.word) c.fields.ensures in
-    let broken : breaks_off placed.called ≡ None = ap breaks_off (sym same) ∙ sym c.breaks_off.ensures ∙ none_of c.breaks_off.result c.in_default.not-Some in
+    let broken : breaks_off (is_window said) placed.called ≡ None = ap (λ (w : Bool). breaks_off w placed.called) (sym before.numbered.window) ∙ ap (breaks_off c.args.run.now.is_window) (sym same) ∙ sym c.breaks_off.ensures ∙ none_of c.breaks_off.result c.in_default.not-Some in
     let going : is_end placed.called ≡ false = ap is_end (sym same) ∙ sym c.is_end.ensures ∙ c.if-is_end.false in
-    let past = past_both placed.called broken going in
+    let past = past_both (is_window said) placed.called broken going in
     let failed : has_report report.Failed placed.entry ≡ false = sym before.is_entry.reports.has_failed ∙ c.if-entry.false in
     let one = c.at.new.self in
     let mid = c.takes_sink.new.self in
@@ -384,7 +387,7 @@ returns-clause-entered c = λ said heading handed progress before ready.
     let all_fit = fits said choice journal s.rank e.place e.word ready.fit before.there call handed progress ready.entries ready.tests in
     let taken : IsTakenBy said choice placed c.takes_sink.result handed progress mid =
     subst (λ (made : Choice). IsAtEntry said made placed kept c.in_ok-at.at → placed.journal.lines ≡ lines → placed.line ≡ one.line → placed.called ≡ called_view it
-    → breaks_off placed.called ≡ None → has_report report.Failed placed.entry ≡ false → IsBack placed → Meets (spot_of said made placed) lines one.requests c.in_ok-at.at it
+    → breaks_off (is_window said) placed.called ≡ None → has_report report.Failed placed.entry ≡ false → IsBack placed → Meets (spot_of said made placed) lines one.requests c.in_ok-at.at it
     → AllFit progress placed.line (steps_in (outcome_in said made progress.records placed)) → Stands handed progress one.list → IsKept progress.records one
     → IsTakenBy said made placed c.takes_sink.result handed progress mid) choice_is (c.takes_sink.ensures.taken said placed kept handed progress)
     is_at refl line_is (sym same) broken failed (is_back s.rank journal e.place e.word) met all_fit stands sinks_kept in
