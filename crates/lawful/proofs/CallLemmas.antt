@@ -11,9 +11,9 @@ use Rattle.mpicall.specs.declared.call.Call.TheVariants.{Split, Finalize, Open}
 use Rattle.mpigroup.specs.Groups.{Groups}
 use Rattle.journals.specs.Known.{has_report}
 use Rattle.journals.specs.declared.word.ReportWord.TheVariants as report
-use Rattle.closing.specs.Called.{Called, StartsExchange, Stops, Aborts, Fills}
+use Rattle.closing.specs.Called.{Called, StartsExchange, Stops, Cuts, Aborts, Fills}
 use Rattle.closing.specs.Keys.{Key, has_member}
-use Rattle.closing.specs.Entries.{Run, Placed, journal_at, entries_at}
+use Rattle.closing.specs.Entries.{Run, Placed, journal_at, entries_at, is_window}
 use Rattle.closing.specs.Numbers.{groups_of, number_of, rank_in, preface_split, preface_lines, preface_of}
 use Rattle.closing.specs.Steps.{Written, Progress, WaitsForLate, after_steps}
 use Rattle.closing.specs.Endings.{breaks_off, can_be, first_of, is_unknown, is_unreported, lacks_number, why_at}
@@ -41,16 +41,18 @@ can_of true b c d e h = absurd (false≢true h)
 can_of false true c d e h = refl
 can_of false false c d e h = absurd (false≢true h)
 
-goes_past : (it : Called) (o : Option Why) → passed (or_else (breaks_off it) o) ≡ true → passed o ≡ true
-goes_past Stops o h = absurd (false≢true h)
-goes_past Aborts o h = absurd (false≢true h)
-goes_past Fills o h = absurd (false≢true h)
-goes_past _ o h = h
+goes_past : (w : Bool) (it : Called) (o : Option Why) → passed (or_else (breaks_off w it) o) ≡ true → passed o ≡ true
+goes_past w Stops o h = absurd (false≢true h)
+goes_past w Aborts o h = absurd (false≢true h)
+goes_past w Fills o h = absurd (false≢true h)
+goes_past true Cuts o h = h
+goes_past false Cuts o h = absurd (false≢true h)
+goes_past w _ o h = h
 
 pub can_at : (run : Run) (placed : Placed) → passed (why_at run placed) ≡ true → can_be run placed ≡ true
 can_at run placed h =
     can_of (has_report report.Failed placed.entry) (can_be run placed) (lacks_number run placed) (is_unreported placed placed.called)
-    (is_unknown placed placed.called) (goes_past placed.called _ h)
+    (is_unknown placed placed.called) (goes_past (is_window run) placed.called _ h)
 
 -- ---- Entries ----
 

@@ -71,6 +71,7 @@ differs b is not = absurd (false≢true (sym is ∙ not))
 pub end_word : (word : CallWord) (fields : List Field) → is_end (called word fields) ≡ true → ends_journal (CallLine word) ≡ true
 end_word call.Finalize fields h = refl
 end_word call.Exit fields h = refl
+end_word call.Cut fields h = refl
 end_word call.Send fields h = differs (is_end (called call.Send fields)) (sends_not Standard fields) h
 end_word call.Rsend fields h = differs (is_end (called call.Rsend fields)) (sends_not Standard fields) h
 end_word call.Ssend fields h = differs (is_end (called call.Ssend fields)) (sends_not Synchronous fields) h

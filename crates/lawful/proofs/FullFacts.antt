@@ -29,6 +29,7 @@ use Rattle.journals.specs.declared.word.CallWord.TheVariants as call
 use Rattle.journals.specs.declared.word.ReportWord.TheVariants as report
 use Rattle.journals.proofs.ReadLines.{line_read}
 use Rattle.journals.proofs.GroupFields.{call_members, report_members, call_group, report_group}
+use Rattle.journals.proofs.JournalLemmas.{moved_right}
 use Rattle.lawful.proofs.GroupFacts.{IsGroupOf}
 use Rattle.lawful.proofs.LineFacts.{LineFits, LinesFit, has_right, line_fits, lines_push}
 
@@ -225,7 +226,7 @@ headed_full rank first (Some heading) header texts journal of is =
     elim (cases_Bool (is_of_run first heading)) [
       | inl own ↦
           with_full rank first heading texts journal (lines_after (record { ranks = heading.ranks; rank = rank }) [] texts)
-          (header_fits rank header heading of) own refl (rw own at is)
+          (header_fits rank header heading of) own refl (moved_right heading (lines_after (record { ranks = heading.ranks; rank = rank }) [] texts) journal (rw own at is))
       | inr other ↦ absurd (err_ok _ journal (rw other at is))
     ]
 

@@ -28,6 +28,7 @@ use Rattle.journals.specs.declared.word.CallWord.TheVariants as call
 use Rattle.journals.specs.declared.word.ReportWord.{ReportWord}
 use Rattle.journals.specs.declared.word.ReportWord.TheVariants as report
 use Rattle.journals.proofs.LineForms.{read_first}
+use Rattle.journals.proofs.JournalLemmas.{moved_right}
 
 -- ---- Lines ----
 
@@ -237,7 +238,7 @@ headed_fits : (rank : ℕ) (first : Option Heading) (o : Option Heading) (texts 
 headed_fits rank first None texts journal is = absurd (err_ok _ journal is)
 headed_fits rank first (Some heading) texts journal is =
     elim (cases_Bool (is_of_run first heading)) [
-      | inl own ↦ with_lines (lines_after (record { ranks = heading.ranks; rank = rank }) [] texts) refl (rw own at is)
+      | inl own ↦ with_lines (lines_after (record { ranks = heading.ranks; rank = rank }) [] texts) refl (moved_right heading (lines_after (record { ranks = heading.ranks; rank = rank }) [] texts) journal (rw own at is))
       | inr other ↦ absurd (err_ok _ journal (rw other at is))
     ]
   where

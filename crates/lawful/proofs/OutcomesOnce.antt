@@ -6,7 +6,7 @@ use Rattle.std.proofs.lemmas.List.Folds.{list_any-append}
 use Rattle.std.proofs.lemmas.List.Sums.{sum_by-cons}
 use Rattle.journals.specs.Lines.{Line}
 use Rattle.journals.specs.Entries.{numbers_by, is_request, last_entry}
-use Rattle.journals.specs.Known.{is_among, knows_request, awaits_any, is_cancelled, is_outcome, has_outcome}
+use Rattle.journals.specs.Known.{is_among, knows_request, is_of_receive, awaits_any, is_cancelled, is_outcome, has_outcome}
 use Rattle.journals.specs.Faults.{is_left, may_follow, may_be_of, names_unfit}
 use Rattle.journals.specs.inner.Knows.{IsRead}
 use Rattle.journals.specs.declared.field.Field.{Field}
@@ -79,6 +79,12 @@ kept_first before fields request is among = record {
   after = has_after before (record { word = Report report.Kept; fields = fields }) request refl among;
 }
 
+moved_first : (before : List Line) (fields : List Field) (request : ℕ) → IsRight before (record { word = Report report.Moved; fields = fields }) → is_among request (numbers_by is_request (record { word = Report report.Moved; fields = fields })) ≡ true → IsFirst before (record { word = Report report.Moved; fields = fields }) request
+moved_first before fields request is among = record {
+  none = not_before (is_of_receive before request) (has_outcome before request) (may_be before report.Moved fields request is among);
+  after = has_after before (record { word = Report report.Moved; fields = fields }) request refl among;
+}
+
 -- ---- The request of a report ----
 
 same_among : (done request : ℕ) (others : List ℕ) → (done == request) ≡ true → is_among request (done ∷ others) ≡ true
@@ -92,15 +98,21 @@ or_none : (b : Bool) → (b || false || false) ≡ true → b ≡ true
 or_none true h = refl
 or_none false h = absurd (false≢true h)
 
+or_none_more : (b : Bool) → (b || false || false || false) ≡ true → b ≡ true
+or_none_more true h = refl
+or_none_more false h = absurd (false≢true h)
+
 -- a line that reports what came of a request is the first that does
 first_of : (before : List Line) (word : Word) (fields : List Field) (request : ℕ) → IsRight before (record { word = word; fields = fields }) → reports_of request word fields ≡ true → IsFirst before (record { word = word; fields = fields }) request
 first_of before (Report report.Done) (Natural done ∷ source ∷ tag ∷ []) request is h =
-    let same = if_some _ (done == request) _ (or_none _ h) in
+    let same = if_some _ (done == request) _ (or_none_more _ h) in
     done_first before (Natural done ∷ source ∷ tag ∷ []) request is (rw same refl)
 first_of before (Report report.Gone) (Natural gone ∷ []) request is h =
-    gone_first before (Natural gone ∷ []) request is (rw h refl)
+    gone_first before (Natural gone ∷ []) request is (rw (or_none (gone == request) h) refl)
 first_of before (Report report.Kept) (Natural kept ∷ []) request is h =
     kept_first before (Natural kept ∷ []) request is (rw h refl)
+first_of before (Report report.Moved) (Natural moved ∷ []) request is h =
+    moved_first before (Natural moved ∷ []) request is (rw h refl)
 first_of before word fields request is h = absurd (false≢true h)
 
 -- ---- Lines ----
@@ -152,6 +164,7 @@ line_formed : (ranks : ℕ) (word : Word) (fields : List Field) → IsRead ranks
 line_formed ranks (Report report.Done) fields read = sym read.fits
 line_formed ranks (Report report.Gone) fields read = sym read.fits
 line_formed ranks (Report report.Kept) fields read = sym read.fits
+line_formed ranks (Report report.Moved) fields read = sym read.fits
 line_formed ranks _ fields read = tt
 
 pub lines_formed : (ranks : ℕ) (lines : List Line) → LinesFull ranks lines → AreFormed lines

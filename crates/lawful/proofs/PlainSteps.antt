@@ -18,7 +18,7 @@ use Rattle.journals.specs.declared.word.Word.TheVariants.{Call as CallLine, Repo
 use Rattle.closing.specs.Called.{Called, Sends, StartsSend, Receives, StartsReceive, Exchanges, Probes, Waits, Collects, StartsCollective, comm_of}
 use Rattle.closing.specs.RankComms.{RankComms, comms_first, key_next, key_under, after_line}
 use Rattle.closing.specs.Entries.{Run, Placed, journal_at, lines_in, lines_at, entries_from, entries_in}
-use Rattle.closing.specs.Reported.{Message, is_gone}
+use Rattle.closing.specs.Reported.{Message, is_gone, is_left_out, is_moved}
 use Rattle.closing.specs.Numbers.{number_of, preface_of}
 use Rattle.closing.specs.Steps.{Id, Own, Step, Does, Starts, WaitsForAll, Progress, numbers_of, wait_for, waits_for, after_steps}
 use Rattle.closing.specs.Endings.{is_unknown, is_unreported, message_at, needs_number, number_at, why_at}
@@ -44,11 +44,19 @@ does_is here call start past = rw past refl
 pub starts_is : (here : Here) (request : ℕ) (start : ℕ → Call) → is_gone here.lines request ≡ false → starts here request start ≡ Starts (Own request) start ∷ []
 starts_is here request start stays = rw stays refl
 
-pub ids_are : (lines : List Line) (requests : List ℕ) → ((request : ℕ) → is_gone lines request ≡ false) → ((request : ℕ) → matched_message lines request ≡ None) → ids_of lines requests ≡ map Own requests
-ids_are lines [] none_gone none_matched = refl
-ids_are lines (request ∷ requests) none_gone none_matched =
+-- what isn't left out isn't gone
+pub gone_of : (lines : List Line) (request : ℕ) → is_left_out lines request ≡ false → is_gone lines request ≡ false
+gone_of lines request h = by (is_gone lines request) h
+  where
+    by : (b : Bool) → (b || is_moved lines request) ≡ false → b ≡ false
+    by true h = absurd (false≢true (sym h))
+    by false h = refl
+
+pub ids_are : (lines : List Line) (requests : List ℕ) → ((request : ℕ) → is_left_out lines request ≡ false) → ((request : ℕ) → matched_message lines request ≡ None) → ids_of lines requests ≡ map Own requests
+ids_are lines [] none_out none_matched = refl
+ids_are lines (request ∷ requests) none_out none_matched =
     let own : id_of lines request ≡ Own request = ap (λ (o : Option ℕ). Own (option_map_or (λ message. message) o request)) (none_matched request) in
-    rw (none_gone request, own, ids_are lines requests none_gone none_matched) refl
+    rw (none_out request, own, ids_are lines requests none_out none_matched) refl
 
 known_message : (o : Option Message) → is_none o ≡ false → (it : Message) × (o ≡ Some it)
 known_message None h = absurd (false≢true (sym h))
@@ -71,6 +79,7 @@ new_request request known h = not_true (is_among request known) (and_parts (not 
 record Fits (choice : Choice) (placed : Placed) (known used : List ℕ) (it : Called) : Type 0 where
   strict : is_past choice.calls placed ≡ false
   none_gone : (request : ℕ) → is_gone placed.journal.lines request ≡ false
+  none_out : (request : ℕ) → is_left_out placed.journal.lines request ≡ false
   none_matched : (request : ℕ) → matched_message placed.journal.lines request ≡ None
   starts_new : list_all (λ (request : ℕ). not (is_among request known)) (started_by it) ≡ true
   waits_used : list_all (λ (request : ℕ). is_among request used) (waited_by it) ≡ true
@@ -136,7 +145,7 @@ wait_adds : (run : Run) (choice : Choice) (placed : Placed) (old : ℕ → ℕ) 
 wait_adds run choice placed old known used progress requests is fits stands =
     rw (fits.strict, is)
     (subst (λ (ids : List Id). AddsSteps old known used progress placed.line (λ number. same_call number None (message_at placed) (Waits requests)) [] requests (WaitsForAll ids ∷ []))
-    (sym (ids_are placed.journal.lines requests fits.none_gone fits.none_matched))
+    (sym (ids_are placed.journal.lines requests fits.none_out fits.none_matched))
     (waits_adds old known used progress placed.line requests fits.waits_used fits.distinct fits.few stands))
 
 pub needs_or_waits : (it : Called) → is_plain it ≡ true → needs_number it ≡ false → (requests : List ℕ) × (it ≡ Waits requests)
@@ -234,7 +243,7 @@ both_went run placed others old known used started waited progress new calls add
 pub strict_past : (choice : Choice) (placed : Placed) → choice.calls ≡ Strict → is_past choice.calls placed ≡ false
 strict_past choice placed strict = ap (λ (calls : Calls). is_past calls placed) strict
 
-list_went : (run : Run) (choice : Choice) (lines : List Line) → choice.calls ≡ Strict → ((request : ℕ) → is_gone lines request ≡ false) → ((request : ℕ) → matched_message lines request ≡ None) → (before : List Placed) (last : Placed) (after : List Placed) (old : ℕ → ℕ) (known used : List ℕ) (progress : Progress) → NoSinks progress.records → AreOf lines before → list_all (goes_on run) (before ++ last ∷ []) ≡ true → is_end last.called ≡ true → list_all (λ (placed : Placed). is_plain placed.called) before ≡ true → are_used_once known used (map (λ (placed : Placed). placed.called) before) ≡ true → Stands old known used progress → Went run before old known progress (calls_before (list_from run choice progress (before ++ last ∷ after)))
+list_went : (run : Run) (choice : Choice) (lines : List Line) → choice.calls ≡ Strict → ((request : ℕ) → is_left_out lines request ≡ false) → ((request : ℕ) → matched_message lines request ≡ None) → (before : List Placed) (last : Placed) (after : List Placed) (old : ℕ → ℕ) (known used : List ℕ) (progress : Progress) → NoSinks progress.records → AreOf lines before → list_all (goes_on run) (before ++ last ∷ []) ≡ true → is_end last.called ≡ true → list_all (λ (placed : Placed). is_plain placed.called) before ≡ true → are_used_once known used (map (λ (placed : Placed). placed.called) before) ≡ true → Stands old known used progress → Went run before old known progress (calls_before (list_from run choice progress (before ++ last ∷ after)))
 list_went run choice lines strict gone matched [] last after old known used progress none own goes ends plain once stands =
     last_went run choice last after old known used progress none (none_of (why_at run last) (and_parts (goes_on run last) true goes).0) ends stands
 list_went run choice lines strict gone matched (placed ∷ before) last after old known used progress none own goes ends plain once stands =
@@ -250,7 +259,8 @@ list_went run choice lines strict gone matched (placed ∷ before) last after ol
     let fourth = and_parts few rest third.1 in
     let fits : Fits choice placed known used it = record {
       strict = strict_past choice placed strict;
-      none_gone = λ request. subst (λ (ls : List Line). is_gone ls request ≡ false) (sym own.0) (gone request);
+      none_gone = λ request. subst (λ (ls : List Line). is_gone ls request ≡ false) (sym own.0) (gone_of lines request (gone request));
+      none_out = λ request. subst (λ (ls : List Line). is_left_out ls request ≡ false) (sym own.0) (gone request);
       none_matched = λ request. subst (λ (ls : List Line). matched_message ls request ≡ None) (sym own.0) (matched request);
       starts_new = first.0;
       waits_used = second.0;
@@ -354,12 +364,12 @@ each_plain_journal_stays_the_same run choice rank strict gone plain few =
     } in
     let own = of_before (lines_at run rank) gone.before (gone.last ∷ gone.after)
     (subst (λ (entries : List Placed). AreOf (lines_at run rank) entries) gone.are (all_of rank (journal_at run rank))) in
-    let went = list_went run choice (lines_at run rank) strict plain.none_gone plain.none_matched gone.before gone.last gone.after (λ request. 0) [] [] first (first_none run rank) own gone.none_breaks gone.ends plain.plain plain.once stands in
+    let went = list_went run choice (lines_at run rank) strict plain.none_out plain.none_matched gone.before gone.last gone.after (λ request. 0) [] [] first (first_none run rank) own gone.none_breaks gone.ends plain.plain plain.once stands in
     let end = ends_through run choice gone.before gone.last gone.after first (first_none run rank) gone.ends gone.none_breaks in
     let said = flat_map (same_call_at run went.number) gone.before in
     record {
       number = went.number;
-      once = each_once run (lines_at run rank) went.number gone.before gone.last plain.none_gone own gone.none_breaks plain.plain;
+      once = each_once run (lines_at run rank) went.number gone.before gone.last (λ request. gone_of (lines_at run rank) request (plain.none_out request)) own gone.none_breaks plain.plain;
       same = bare_calls (is_none (journal_at run rank)) (cut (whole_list run choice rank))
           ∙ short_calls (whole_list run choice rank) few
           ∙ ap (λ (entries : List Placed). calls_of (list_from run choice first entries)) gone.are

@@ -14,6 +14,7 @@ use Rattle.journals.specs.Faults.{Owner, is_after_end, is_out_of_place, is_free,
 use Rattle.journals.specs.Journal.{Journal, Fault, unless_fault, checked_line, line_after, read_on, lines_after, with_heading, after_header, journal_of_lines}
 use Rattle.journals.specs.declared.fault.JournalFaultKind.{JournalFaultKind}
 use Rattle.journals.specs.declared.fault.JournalFaultKind.TheVariants.{AfterEnd, OutOfPlace, Request}
+use Rattle.journals.proofs.JournalLemmas.{moved_right}
 
 err_ok : {A B : Type 0} (e : B) (x : A) → ◌≡◌ {A = Result A B} (Err e) (Ok x) → ⊥
 err_ok e x h = cc
@@ -83,7 +84,7 @@ headed_right : (rank : ℕ) (first : Option Heading) (o : Option Heading) (texts
 headed_right rank first None texts journal is = absurd (err_ok _ journal is)
 headed_right rank first (Some heading) texts journal is =
     elim (cases_Bool (is_of_run first heading)) [
-      | inl own ↦ with_lines (lines_after (record { ranks = heading.ranks; rank = rank }) [] texts) refl (rw own at is)
+      | inl own ↦ with_lines (lines_after (record { ranks = heading.ranks; rank = rank }) [] texts) refl (moved_right heading (lines_after (record { ranks = heading.ranks; rank = rank }) [] texts) journal (rw own at is))
       | inr other ↦ absurd (err_ok _ journal (rw other at is))
     ]
   where

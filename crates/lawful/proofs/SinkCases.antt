@@ -12,9 +12,9 @@ use Rattle.mpicall.specs.declared.call.Peer.TheVariants as peer
 use Rattle.journals.specs.Lines.{Line}
 use Rattle.journals.specs.Known.{has_report, report_of, requests_in}
 use Rattle.journals.specs.declared.word.ReportWord.TheVariants as report
-use Rattle.closing.specs.Called.{Called, Sent, Awaited, Receives, StartsReceive, Exchanges, StartsExchange, Probes, ProbesMatching, ReceivesMatched, Waits, Tests, WaitsAny, WaitsSome, Stops, Aborts, Fills}
+use Rattle.closing.specs.Called.{Called, Sent, Awaited, Receives, StartsReceive, Exchanges, StartsExchange, Probes, ProbesMatching, ReceivesMatched, Waits, Tests, WaitsAny, WaitsSome, Stops, Cuts, Aborts, Fills}
 use Rattle.closing.specs.RankComms.{makes_comm}
-use Rattle.closing.specs.Entries.{Run, Placed}
+use Rattle.closing.specs.Entries.{Run, Placed, is_window}
 use Rattle.closing.specs.Reported.{Message, is_gone}
 use Rattle.closing.specs.Steps.{Whole, Own, Written, Step}
 use Rattle.closing.specs.Endings.{awaited_at, message_at, breaks_off, can_be, first_of, lacks_number, number_at}
@@ -303,11 +303,13 @@ pub record IsWell (run : Run) (placed : Placed) : Type 0 where
   pub can : can_be run placed ≡ true
   pub numbered : lacks_number run placed ≡ false
 
-none_breaks : (it : Called) (o : Option Why) → is_none (or_else (breaks_off it) o) ≡ true → is_none o ≡ true
-none_breaks Stops o h = absurd (false≢true h)
-none_breaks Aborts o h = absurd (false≢true h)
-none_breaks Fills o h = absurd (false≢true h)
-none_breaks _ o h = h
+none_breaks : (w : Bool) (it : Called) (o : Option Why) → is_none (or_else (breaks_off w it) o) ≡ true → is_none o ≡ true
+none_breaks w Stops o h = absurd (false≢true h)
+none_breaks w Aborts o h = absurd (false≢true h)
+none_breaks w Fills o h = absurd (false≢true h)
+none_breaks true Cuts o h = h
+none_breaks false Cuts o h = absurd (false≢true h)
+none_breaks w _ o h = h
 
 well_of : (run : Run) (placed : Placed) (a b c : Bool) → has_report report.Failed placed.entry ≡ a → can_be run placed ≡ b → lacks_number run placed ≡ c → is_none (first_of ((a, Failed) ∷ (not b, CannotBe) ∷ (c, NoNumber) ∷ [])) ≡ true → IsWell run placed
 well_of run placed true b c first second third h = absurd (false≢true h)
@@ -318,4 +320,4 @@ well_of run placed false true false first second third h = record { well = first
 pub sound_is : (run : Run) (placed : Placed) → is_sound run placed ≡ true → IsWell run placed
 sound_is run placed h =
     well_of run placed (has_report report.Failed placed.entry) (can_be run placed) (lacks_number run placed) refl refl refl
-    (none_breaks placed.called (first_of ((has_report report.Failed placed.entry, Failed) ∷ (not (can_be run placed), CannotBe) ∷ (lacks_number run placed, NoNumber) ∷ [])) h)
+    (none_breaks (is_window run) placed.called (first_of ((has_report report.Failed placed.entry, Failed) ∷ (not (can_be run placed), CannotBe) ∷ (lacks_number run placed, NoNumber) ∷ [])) h)

@@ -24,7 +24,7 @@ use Rattle.journals.specs.declared.field.Field.TheVariants.{Natural, Signed, Nul
 use Rattle.closing.specs.Called.{Called, Sent, Awaited, Sends, StartsSend, Receives, StartsReceive, Exchanges, StartsExchange, Probes, ProbesMatching, Collects, StartsCollective, Duplicates, StartsDuplicate, Splits, Makes, MakesOfGroup}
 use Rattle.closing.specs.Keys.{Key, group_of_key}
 use Rattle.closing.specs.Made.{key_made, wave_at}
-use Rattle.closing.specs.Entries.{Run, Placed}
+use Rattle.closing.specs.Entries.{Run, Placed, is_window}
 use Rattle.closing.specs.Numbers.{rank_in}
 use Rattle.closing.specs.Reported.{Message, done_of, got_in, is_gone, known_field, message_from, message_of}
 use Rattle.closing.specs.Steps.{Id, Own, Whole, ReceiveHalf, Written, Progress, Step, Does, Starts, WaitsForAll, WaitsForOne, PutsOff, WaitsForLate, number_in, numbers_of, least_free, waits_for, wait_for_one, wait_one, plain, after_step, after_steps}
@@ -444,7 +444,7 @@ sound_if None false false false d e h = refl
 goes_clean : (run : Run) (choice : Choice) (records : List Written) (placed : Placed) → outcome_by_sinks run choice records placed ≡ None → why_at run placed ≡ None → AreSteps (Behind Apart records) (steps_of run choice placed)
 goes_clean run choice records placed none why =
     let sound : is_sound run placed ≡ true =
-    sound_if (breaks_off placed.called) (has_report report.Failed placed.entry) (not (can_be run placed)) (lacks_number run placed)
+    sound_if (breaks_off (is_window run) placed.called) (has_report report.Failed placed.entry) (not (can_be run placed)) (lacks_number run placed)
     (is_unreported placed placed.called) (is_unknown placed placed.called) why in
     let passed : by_call run choice records placed placed.called ≡ None =
     sym (ap (λ (b : Bool). if b then by_call run choice records placed placed.called else None) sound) ∙ none in
@@ -482,7 +482,7 @@ before_clean : (run : Run) (choice : Choice) (records : List Written) (placed : 
 before_clean run choice records placed (StartsExchange request received sent awaited) NeverReported called is =
     let none = untold placed request received sent awaited None (has_report report.Failed placed.entry) (not (can_be run placed)) (lacks_number run placed)
     (is_unknown placed (StartsExchange request received sent awaited))
-    (subst (λ (it : Called). or_else (breaks_off it) (first_of ((has_report report.Failed placed.entry, Failed) ∷ (not (can_be run placed), CannotBe)
+    (subst (λ (it : Called). or_else (breaks_off (is_window run) it) (first_of ((has_report report.Failed placed.entry, Failed) ∷ (not (can_be run placed), CannotBe)
     ∷ (lacks_number run placed, NoNumber) ∷ (is_unreported placed it, NeverReported) ∷ (is_unknown placed it, NeverCameBack) ∷ [])) ≡ Some NeverReported) called is) refl in
     by_clean records run choice placed (number_at run placed)
     (λ comm number. subst (λ (it : Called). CleanFor records (here_at run choice placed comm) it) (sym called) (λ stays it known. absurd (some_not (message_at placed) it none known)))

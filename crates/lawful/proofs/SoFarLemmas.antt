@@ -16,7 +16,7 @@ use Rattle.journals.specs.declared.word.Word.TheVariants.{Call as CallLine, Repo
 use Rattle.closing.specs.Called.{Awaited, called}
 use Rattle.closing.specs.RankComms.{RankComms, after_line}
 use Rattle.closing.specs.Entries.{Run, Placed, entries_from, did_come_back}
-use Rattle.closing.specs.Reported.{Message, done_in, done_of, is_gone, says_gone, message_of, message_from, with_wildcards}
+use Rattle.closing.specs.Reported.{Message, done_in, done_of, is_gone, says_gone, message_of, message_from, with_wildcards, is_moved, says_moved}
 use Rattle.closing.specs.Steps.{Step, Does, Starts, WaitsForAll, WaitsForOne, PutsOff, WaitsForLate, Written, Progress, number_in, wait_one, after_step, after_steps}
 use Rattle.closing.specs.Entry.{Choice, matched_in, matched_message}
 use Rattle.closing.specs.Recording.{Listed, outcome_in, go_on, list_from}
@@ -136,6 +136,10 @@ matched_first (line ∷ lines) more request none =
 pub gone_first : (lines more : List Line) (request : ℕ) → is_gone (lines ++ more) request ≡ false → is_gone lines request ≡ false
 gone_first lines more request none =
     (or_parts (is_gone lines request) (is_gone more request) (sym (list_any-append (λ line. says_gone request line.word line.fields) lines more) ∙ none)).0
+
+pub moved_first : (lines more : List Line) (request : ℕ) → is_moved (lines ++ more) request ≡ false → is_moved lines request ≡ false
+moved_first lines more request none =
+    (or_parts (is_moved lines request) (is_moved more request) (sym (list_any-append (λ line. says_moved request line.word line.fields) lines more) ∙ none)).0
 
 from_if : (b : Bool) (it : Awaited) (all : Option Message) (o : Option Message) (m : Message) → (if b then with_wildcards it None else all) ≡ Some m → (if b then with_wildcards it o else all) ≡ (if b then with_wildcards it None else all)
 from_if true it all o m h = absurd (none-some m h)

@@ -1,5 +1,5 @@
 -- A plain entry says the same when its journal goes on, and so its list begins alike.
-use Rattle.std.proofs.Common.{◌≡◌, ℕ, ◌&&◌, not, Bool, true, false, Option, Some, None, List, [], ◌∷◌, ◌++◌, length, map, refl, sym, ap, subst, ◌∙◌}
+use Rattle.std.proofs.Common.{◌≡◌, ℕ, ◌&&◌, ◌||◌, if◌then◌else◌, not, Bool, true, false, Option, Some, None, List, [], ◌∷◌, ◌++◌, length, map, refl, sym, ap, subst, ◌∙◌}
 use Rattle.std.specs.Prelude.{is_none, option_and_then}
 use Rattle.std.specs.List.{list_all}
 use Rattle.std.specs.Option.{option_map_or}
@@ -15,8 +15,8 @@ use Rattle.journals.specs.declared.word.ReportWord.TheVariants as report
 use Rattle.closing.specs.Called.{Called, Awaited, Sends, StartsSend, Receives, StartsReceive, Exchanges, Probes, Waits, Collects, StartsCollective}
 use Rattle.closing.specs.Keys.{Key, group_of_key}
 use Rattle.closing.specs.RankComms.{comms_first}
-use Rattle.closing.specs.Entries.{Run, Placed, entries_from, entries_in, entries_at}
-use Rattle.closing.specs.Reported.{Message, done_of, is_gone, message_can_be, message_of, peer_can_be, tag_can_be}
+use Rattle.closing.specs.Entries.{Run, Placed, entries_from, entries_in, entries_at, is_window}
+use Rattle.closing.specs.Reported.{Message, done_of, from_nobody, is_gone, is_left_out, is_moved, message_can_be, message_of, peer_can_be, tag_can_be}
 use Rattle.closing.specs.Numbers.{named_key, number_of}
 use Rattle.closing.specs.Steps.{Own, Step, Does, Starts, WaitsForAll, Progress, after_steps, plain as written}
 use Rattle.closing.specs.Endings.{awaited_at, awaited_can_be, breaks_off, can_be, first_of, is_unknown, is_unreported, lacks_number, message_at, needs_number, number_at, sends_can_be, size_at, why_at}
@@ -28,8 +28,8 @@ use Rattle.lawful.specs.Plain.{is_plain}
 use Rattle.lawful.specs.SoFar.{WhatIsSoFarStays}
 use Rattle.lawful.proofs.NoSinks.{NoSinks, clear, steps_none, steps_not}
 use Rattle.lawful.proofs.EndLemmas.{goes_on, end_list, none_of, next_of, first_none}
-use Rattle.lawful.proofs.PlainSteps.{does_is, starts_is, ids_are, needs_or_waits, no_number, plain_no_end, strict_past}
-use Rattle.lawful.proofs.SoFarLemmas.{Grows, list_grows, with_later, AreAlike, alike, done_append, matched_first, gone_first, message_more}
+use Rattle.lawful.proofs.PlainSteps.{does_is, gone_of, starts_is, ids_are, needs_or_waits, no_number, plain_no_end, strict_past}
+use Rattle.lawful.proofs.SoFarLemmas.{Grows, list_grows, with_later, AreAlike, alike, done_append, matched_first, gone_first, moved_first, message_more}
 
 -- ---- Steps by the number and the message ----
 
@@ -61,10 +61,10 @@ comm_steps here (StartsCollective request collective own root) message is plain 
 comm_steps here (Waits requests) message is plain needs past gone = absurd (false≢true needs)
 comm_steps here _ message is plain needs past gone = absurd (false≢true plain)
 
-steps_by_are : (run : Run) (choice : Choice) (placed : Placed) (needs : Bool) (o : Option ℕ) → needs_number placed.called ≡ needs → number_at run placed ≡ o → (needs && is_none o) ≡ false → is_plain placed.called ≡ true → is_past choice.calls placed ≡ false → ((request : ℕ) → is_gone placed.journal.lines request ≡ false) → ((request : ℕ) → matched_message placed.journal.lines request ≡ None) → steps_by run choice placed o ≡ plain_steps o (message_at placed) placed.called
+steps_by_are : (run : Run) (choice : Choice) (placed : Placed) (needs : Bool) (o : Option ℕ) → needs_number placed.called ≡ needs → number_at run placed ≡ o → (needs && is_none o) ≡ false → is_plain placed.called ≡ true → is_past choice.calls placed ≡ false → ((request : ℕ) → is_left_out placed.journal.lines request ≡ false) → ((request : ℕ) → matched_message placed.journal.lines request ≡ None) → steps_by run choice placed o ≡ plain_steps o (message_at placed) placed.called
 steps_by_are run choice placed true None needs is lacks plain past gone matched = absurd (false≢true (sym lacks))
 steps_by_are run choice placed true (Some comm) needs is lacks plain past gone matched =
-    comm_steps (here_at run choice placed comm) placed.called (message_at placed) refl plain needs past gone
+    comm_steps (here_at run choice placed comm) placed.called (message_at placed) refl plain needs past (λ request. gone_of placed.journal.lines request (gone request))
 steps_by_are run choice placed false (Some comm) needs is lacks plain past gone matched =
     let wait = needs_or_waits placed.called plain needs in
     absurd (none-some comm (sym (no_number run placed wait.0 wait.1) ∙ is))
@@ -72,7 +72,7 @@ steps_by_are run choice placed false None needs is lacks plain past gone matched
     let wait = needs_or_waits placed.called plain needs in
     rw (past, wait.1) (ap (λ ids. WaitsForAll ids ∷ []) (ids_are placed.journal.lines wait.0 gone matched))
 
-steps_are : (run : Run) (choice : Choice) (placed : Placed) → lacks_number run placed ≡ false → is_plain placed.called ≡ true → is_past choice.calls placed ≡ false → ((request : ℕ) → is_gone placed.journal.lines request ≡ false) → ((request : ℕ) → matched_message placed.journal.lines request ≡ None) → steps_of run choice placed ≡ plain_steps (number_at run placed) (message_at placed) placed.called
+steps_are : (run : Run) (choice : Choice) (placed : Placed) → lacks_number run placed ≡ false → is_plain placed.called ≡ true → is_past choice.calls placed ≡ false → ((request : ℕ) → is_left_out placed.journal.lines request ≡ false) → ((request : ℕ) → matched_message placed.journal.lines request ≡ None) → steps_of run choice placed ≡ plain_steps (number_at run placed) (message_at placed) placed.called
 steps_are run choice placed lacks plain past gone matched =
     steps_by_are run choice placed (needs_number placed.called) (number_at run placed) refl refl lacks plain past gone matched
 
@@ -84,16 +84,31 @@ record On (run longer : Run) (placed : Placed) (later : Journal) : Type 0 where
   lines : later.lines ≡ placed.journal.lines ++ more
   ranks : length longer ≡ length run
   numbers : (key : Key) → number_of longer key ≡ number_of run key
-  none_gone : (request : ℕ) → is_gone later.lines request ≡ false
+  none_out : (request : ℕ) → is_left_out later.lines request ≡ false
   none_matched : (request : ℕ) → matched_message later.lines request ≡ None
 
 number_same : (run longer : Run) (o : Option Key) → ((key : Key) → number_of longer key ≡ number_of run key) → option_and_then (number_of longer) o ≡ option_and_then (number_of run) o
 number_same run longer None same = refl
 number_same run longer (Some key) same = same key
 
+moved_of : (lines : List Line) (request : ℕ) → is_left_out lines request ≡ false → is_moved lines request ≡ false
+moved_of lines request h = by (is_gone lines request) h
+  where
+    by : (b : Bool) → (b || is_moved lines request) ≡ false → is_moved lines request ≡ false
+    by true h = absurd (false≢true (sym h))
+    by false h = h
+
+moved_now : (run longer : Run) (placed : Placed) (later : Journal) → On run longer placed later → (request : ℕ) → is_moved placed.journal.lines request ≡ false
+moved_now run longer placed later on request =
+    moved_first placed.journal.lines on.more request (subst (λ (ls : List Line). is_moved ls request ≡ false) on.lines (moved_of later.lines request (on.none_out request)))
+
 gone_now : (run longer : Run) (placed : Placed) (later : Journal) → On run longer placed later → (request : ℕ) → is_gone placed.journal.lines request ≡ false
 gone_now run longer placed later on request =
-    gone_first placed.journal.lines on.more request (subst (λ (ls : List Line). is_gone ls request ≡ false) on.lines (on.none_gone request))
+    gone_first placed.journal.lines on.more request (subst (λ (ls : List Line). is_gone ls request ≡ false) on.lines (gone_of later.lines request (on.none_out request)))
+
+out_now : (run longer : Run) (placed : Placed) (later : Journal) → On run longer placed later → (request : ℕ) → is_left_out placed.journal.lines request ≡ false
+out_now run longer placed later on request =
+    ap (λ (b : Bool). b || is_moved placed.journal.lines request) (gone_now run longer placed later on request) ∙ moved_now run longer placed later on request
 
 matched_now : (run longer : Run) (placed : Placed) (later : Journal) → On run longer placed later → (request : ℕ) → matched_message placed.journal.lines request ≡ None
 matched_now run longer placed later on request =
@@ -106,11 +121,13 @@ known_if (Some it) gone is h = refl
 size_same : (run longer : Run) (o : Option Key) → length longer ≡ length run → option_map_or (λ key. length (group_of_key (length longer) key)) o 0 ≡ option_map_or (λ key. length (group_of_key (length run) key)) o 0
 size_same run longer o same = ap (λ (ranks : ℕ). option_map_or (λ key. length (group_of_key ranks key)) o 0) same
 
-message_is : (placed : Placed) (request : ℕ) (it : Awaited) → placed.called ≡ StartsReceive request it → message_at placed ≡ message_of it (done_of placed.journal.lines request)
-message_is placed request it is = rw is refl
+message_is : (placed : Placed) (request : ℕ) (it : Awaited) → placed.called ≡ StartsReceive request it → is_moved placed.journal.lines request ≡ false → message_at placed ≡ message_of it (done_of placed.journal.lines request)
+message_is placed request it is stays =
+    rw is (ap (λ (b : Bool). message_of (if b then from_nobody it else it) (done_of placed.journal.lines request)) stays)
 
-awaited_is : (placed : Placed) (request : ℕ) (it : Awaited) → placed.called ≡ StartsReceive request it → awaited_at placed ≡ Some (it, done_of placed.journal.lines request)
-awaited_is placed request it is = rw is refl
+awaited_is : (placed : Placed) (request : ℕ) (it : Awaited) → placed.called ≡ StartsReceive request it → is_moved placed.journal.lines request ≡ false → awaited_at placed ≡ Some (it, done_of placed.journal.lines request)
+awaited_is placed request it is stays =
+    rw is (ap (λ (b : Bool). Some (if b then from_nobody it else it, done_of placed.journal.lines request)) stays)
 
 -- of a started receive whose message is known
 later_message : (run longer : Run) (placed : Placed) (later : Journal) (request : ℕ) (it : Awaited) → placed.called ≡ StartsReceive request it → is_unreported placed (StartsReceive request it) ≡ false → On run longer placed later → message_of it (done_of later.lines request) ≡ message_of it (done_of placed.journal.lines request)
@@ -119,11 +136,12 @@ later_message run longer placed later request it is told on =
     ap (λ (ls : List Line). message_of it (done_of ls request)) on.lines
     ∙ ap (λ (o : Option Message). message_of it o) (done_append placed.journal.lines on.more request)
     ∙ message_more it (done_of placed.journal.lines request) (done_of on.more request)
-    (subst (λ (o : Option Message). is_none o ≡ false) (message_is placed request it is) known)
+    (subst (λ (o : Option Message). is_none o ≡ false) (message_is placed request it is (moved_now run longer placed later on request)) known)
 
 message_same : (run longer : Run) (placed : Placed) (later : Journal) (back : Bool) (it : Called) → placed.called ≡ it → is_plain it ≡ true → is_unreported placed it ≡ false → On run longer placed later → message_at (with_later placed later back) ≡ message_at placed
 message_same run longer placed later back (StartsReceive request it) is plain told on =
-    message_is (with_later placed later back) request it is ∙ later_message run longer placed later request it is told on ∙ sym (message_is placed request it is)
+    message_is (with_later placed later back) request it is (moved_of later.lines request (on.none_out request)) ∙ later_message run longer placed later request it is told on
+    ∙ sym (message_is placed request it is (moved_now run longer placed later on request))
 message_same run longer placed later back (Sends mode sent) is plain told on = rw is refl
 message_same run longer placed later back (StartsSend request mode sent) is plain told on = rw is refl
 message_same run longer placed later back (Receives it) is plain told on = rw is refl
@@ -137,9 +155,9 @@ message_same run longer placed later back _ is plain told on = absurd (false≢t
 -- what it awaits can be, or not, as before
 awaits_same : (run longer : Run) (placed : Placed) (later : Journal) (back : Bool) (size : ℕ) (it : Called) → placed.called ≡ it → is_plain it ≡ true → is_unreported placed it ≡ false → On run longer placed later → option_map_or (awaited_can_be size) (awaited_at (with_later placed later back)) true ≡ option_map_or (awaited_can_be size) (awaited_at placed) true
 awaits_same run longer placed later back size (StartsReceive request it) is plain told on =
-    ap (λ (o : Option (Awaited × Option Message)). option_map_or (awaited_can_be size) o true) (awaited_is (with_later placed later back) request it is)
+    ap (λ (o : Option (Awaited × Option Message)). option_map_or (awaited_can_be size) o true) (awaited_is (with_later placed later back) request it is (moved_of later.lines request (on.none_out request)))
     ∙ ap (λ (m : Option Message). peer_can_be size it.source && tag_can_be it.tag && message_can_be size m) (later_message run longer placed later request it is told on)
-    ∙ sym (ap (λ (o : Option (Awaited × Option Message)). option_map_or (awaited_can_be size) o true) (awaited_is placed request it is))
+    ∙ sym (ap (λ (o : Option (Awaited × Option Message)). option_map_or (awaited_can_be size) o true) (awaited_is placed request it is (moved_now run longer placed later on request)))
 awaits_same run longer placed later back size (Sends mode sent) is plain told on = rw is refl
 awaits_same run longer placed later back size (StartsSend request mode sent) is plain told on = rw is refl
 awaits_same run longer placed later back size (Receives it) is plain told on = rw is refl
@@ -153,7 +171,7 @@ awaits_same run longer placed later back size _ is plain told on = absurd (false
 told_same : (run longer : Run) (placed : Placed) (later : Journal) (back : Bool) (it : Called) → is_plain it ≡ true → message_at (with_later placed later back) ≡ message_at placed → On run longer placed later → is_unreported (with_later placed later back) it ≡ is_unreported placed it
 told_same run longer placed later back (StartsReceive request it) plain message on =
     ap (λ (m : Option Message). is_none m && not (is_gone later.lines request)) message
-    ∙ ap (λ (b : Bool). is_none (message_at placed) && not b) (on.none_gone request ∙ sym (gone_now run longer placed later on request))
+    ∙ ap (λ (b : Bool). is_none (message_at placed) && not b) (gone_of later.lines request (on.none_out request) ∙ sym (gone_now run longer placed later on request))
 told_same run longer placed later back (Sends mode sent) plain message on = refl
 told_same run longer placed later back (StartsSend request mode sent) plain message on = refl
 told_same run longer placed later back (Receives it) plain message on = refl
@@ -184,6 +202,24 @@ record Same (run longer : Run) (choice : Choice) (placed : Placed) (later : Jour
   why : why_at longer (with_later placed later back) ≡ why_at run placed
   steps : steps_of longer choice (with_later placed later back) ≡ steps_of run choice placed
 
+-- the rules but for a call that breaks the list off
+abbrev rules : Run → Placed → Called → Option Why
+rules run placed it =
+    first_of ((has_report report.Failed placed.entry, Failed) ∷ (not (can_be run placed), CannotBe) ∷ (lacks_number run placed, NoNumber)
+    ∷ (is_unreported placed it, NeverReported) ∷ (is_unknown placed it, NeverCameBack) ∷ [])
+
+plain_breaks : (window : Bool) (it : Called) → is_plain it ≡ true → breaks_off window it ≡ None
+plain_breaks window (Sends mode sent) plain = refl
+plain_breaks window (StartsSend request mode sent) plain = refl
+plain_breaks window (Receives it) plain = refl
+plain_breaks window (StartsReceive request it) plain = refl
+plain_breaks window (Exchanges sent it) plain = refl
+plain_breaks window (Probes it) plain = refl
+plain_breaks window (Waits requests) plain = refl
+plain_breaks window (Collects collective own root) plain = refl
+plain_breaks window (StartsCollective request collective own root) plain = refl
+plain_breaks window _ plain = absurd (false≢true plain)
+
 same : (run longer : Run) (choice : Choice) (placed : Placed) (later : Journal) (back : Bool) → ((other : Placed) → is_past choice.calls other ≡ false) → why_at run placed ≡ None → is_plain placed.called ≡ true → On run longer placed later → Same run longer choice placed later back
 same run longer choice placed later back strict why plain on =
     let other = with_later placed later back in
@@ -196,13 +232,14 @@ same run longer choice placed later back strict why plain on =
     ap (λ (n : ℕ). sends_can_be n placed.called && option_map_or (awaited_can_be n) (awaited_at other) true) size
     ∙ ap (λ (b : Bool). sends_can_be (size_at run placed) placed.called && b) (awaits_same run longer placed later back (size_at run placed) placed.called refl plain clear_now.told on) in
     record {
-      why = parts_same (breaks_off placed.called) (has_report report.Failed placed.entry) (can_be run placed) (lacks_number run placed) (is_unreported placed placed.called) (is_unknown placed placed.called)
+      why = subst (λ (o : Option Why). or_else o (rules longer other placed.called) ≡ why_at run placed) (sym (plain_breaks (is_window longer) placed.called plain ∙ sym (plain_breaks (is_window run) placed.called plain)))
+          (parts_same (breaks_off (is_window run) placed.called) (has_report report.Failed placed.entry) (can_be run placed) (lacks_number run placed) (is_unreported placed placed.called) (is_unknown placed placed.called)
           (can_be longer other) (lacks_number longer other) (is_unreported other placed.called) (is_unknown other placed.called)
-          can lacks (told_same run longer placed later back placed.called plain message on) (known_same placed later back placed.called plain message);
-      steps = steps_are longer choice other (lacks ∙ clear_now.numbered) plain (strict other) on.none_gone on.none_matched
+          can lacks (told_same run longer placed later back placed.called plain message on) (known_same placed later back placed.called plain message));
+      steps = steps_are longer choice other (lacks ∙ clear_now.numbered) plain (strict other) on.none_out on.none_matched
           ∙ ap (λ (o : Option ℕ). plain_steps o (message_at other) placed.called) number
           ∙ ap (λ (m : Option Message). plain_steps (number_at run placed) m placed.called) message
-          ∙ sym (steps_are run choice placed clear_now.numbered plain (strict placed) (gone_now run longer placed later on) (matched_now run longer placed later on));
+          ∙ sym (steps_are run choice placed clear_now.numbered plain (strict placed) (out_now run longer placed later on) (matched_now run longer placed later on));
     }
 
 -- ---- Lists ----
@@ -247,7 +284,7 @@ what_is_so_far_stays run longer choice rank strict on plain =
         lines = on.lines ∙ ap (λ (ls : List Line). ls ++ on.more) (sym own);
         ranks = on.ranks;
         numbers = on.numbers;
-        none_gone = plain.none_gone;
+        none_out = plain.none_out;
         none_matched = plain.none_matched;
       };
     } in

@@ -19,10 +19,10 @@ use Rattle.journals.specs.declared.word.CallWord.{CallWord}
 use Rattle.journals.specs.declared.word.CallWord.TheVariants as call
 use Rattle.journals.specs.declared.word.ReportWord.{ReportWord}
 use Rattle.journals.specs.declared.word.ReportWord.TheVariants as report
-use Rattle.closing.specs.Called.{Called, StartsExchange, Duplicates, Splits, Makes, Stops, Aborts, Fills, called, awaited}
+use Rattle.closing.specs.Called.{Called, StartsExchange, Duplicates, Splits, Makes, Stops, Cuts, Aborts, Fills, called, awaited}
 use Rattle.closing.specs.Keys.{Key, Made}
 use Rattle.closing.specs.RankComms.{Wave, RankComms, under, makes_comm, wave_next, key_next, duplicated_in, with_key, with_made, after_call, after_report}
-use Rattle.closing.specs.Entries.{Run, Placed, placed_at, entries_from}
+use Rattle.closing.specs.Entries.{Run, Placed, placed_at, entries_from, is_window}
 use Rattle.closing.specs.Numbers.{groups_of}
 use Rattle.closing.specs.Steps.{Step, Does, WaitsForLate, Progress, after_steps}
 use Rattle.closing.specs.Endings.{breaks_off, can_be, first_of, is_unknown, is_unreported, lacks_number, needs_number, number_at, why_at}
@@ -100,11 +100,13 @@ goes_on_of false true c d e h = absurd (none-some CannotBe (sym h))
 goes_on_of false false true d e h = absurd (none-some NoNumber (sym h))
 goes_on_of false false false d e h = refl
 
-pub breaks_none : (it : Called) (o : Option Why) → or_else (breaks_off it) o ≡ None → o ≡ None
-breaks_none Stops o h = absurd (none-some _ (sym h))
-breaks_none Aborts o h = absurd (none-some _ (sym h))
-breaks_none Fills o h = absurd (none-some _ (sym h))
-breaks_none _ o h = h
+pub breaks_none : (w : Bool) (it : Called) (o : Option Why) → or_else (breaks_off w it) o ≡ None → o ≡ None
+breaks_none w Stops o h = absurd (none-some _ (sym h))
+breaks_none w Aborts o h = absurd (none-some _ (sym h))
+breaks_none w Fills o h = absurd (none-some _ (sym h))
+breaks_none true Cuts o h = h
+breaks_none false Cuts o h = absurd (none-some _ (sym h))
+breaks_none w _ o h = h
 
 needs : (it : Called) → makes_comm it ≡ true → needs_number it ≡ true
 needs (Duplicates comm) h = refl
@@ -120,7 +122,7 @@ has_number : (run : Run) (placed : Placed) → makes_comm placed.called ≡ true
 has_number run placed makes_one h =
     some_number (needs_number placed.called) (number_at run placed) (needs placed.called makes_one)
     (goes_on_of (has_report report.Failed placed.entry) (not (can_be run placed)) (lacks_number run placed) (is_unreported placed placed.called)
-    (is_unknown placed placed.called) (breaks_none placed.called _ h))
+    (is_unknown placed placed.called) (breaks_none (is_window run) placed.called _ h))
 
 maker_steps : (here : Here) (it : Called) → makes_comm it ≡ true → on_comm here it ≡ Does here.maker ∷ []
 maker_steps here (Duplicates comm) h = refl

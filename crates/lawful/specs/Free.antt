@@ -21,7 +21,7 @@ use Rattle.lawful.specs.Laws.{IsRead}
 
 -- ---- How a list ends ----
 
--- one of the entries is a finalize or exit, and none up to it breaks the list off
+-- one of the entries is a finalize, an exit or a cut, and none up to it breaks the list off
 pub record AreGoneThrough (run : Run) (entries : List Placed) : Type 0 where
   pub before : List Placed
   pub last : Placed
@@ -50,7 +50,8 @@ abbrev pub why_of : Outcome → Option Why
 why_of (GoesOn steps) = None
 why_of (Ends steps end why) = why
 
--- one of the entries is a finalize or exit, and none up to it ends the list before its end, by the sinks before each
+-- one of the entries is a finalize, an exit or a cut, and none up to it ends the list before its end, by the sinks before
+-- each
 pub record AreListedThrough (run : Run) (choice : Choice) (rank : ℕ) (entries : List Placed) : Type 0 where
   pub before : List Placed
   pub last : Placed
@@ -74,7 +75,7 @@ WhatIsLeftIsOpen =
     (run : Run) (choice : Choice) (rank : ℕ) (why : Why) →
     (list_of run choice rank).why ≡ Some why → (list_of run choice rank).end ≡ Open
 
--- Law: a list of which nothing is told ends with Finalize, if its rank's journal has a finalize or exit.
+-- Law: a list of which nothing is told ends with Finalize, if its rank's journal has a finalize, an exit or a cut.
 abbrev pub WhatIsNotLeftIsAnEnd : Type 0
 WhatIsNotLeftIsAnEnd =
     (run : Run) (choice : Choice) (rank : ℕ) → (list_of run choice rank).why ≡ None →
@@ -87,7 +88,7 @@ WhatIsNotLeftIsAnEnd =
 abbrev pub IsNoneLeftOpen : Lists → Type 0
 IsNoneLeftOpen lists = list_any (is_left_open lists) (range_with_len 0 (length lists)) ≡ false
 
--- the rank has a journal, and its last line is a finalize or exit
+-- the rank has a journal, and its last line is a finalize, an exit or a cut
 pub record HasCalledItsEnd (run : Run) (rank : ℕ) : Type 0 where
   pub journal : Journal
   pub is_there : journal_at run rank ≡ Some journal

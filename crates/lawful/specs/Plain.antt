@@ -8,7 +8,7 @@ use Rattle.mpicall.specs.declared.call.Call.TheVariants.{Coll, Finalize}
 use Rattle.journals.specs.Known.{is_among, are_distinct}
 use Rattle.closing.specs.Called.{Called, Sends, StartsSend, Receives, StartsReceive, Exchanges, Probes, Waits, Collects, StartsCollective}
 use Rattle.closing.specs.Entries.{Run, Placed, lines_at, entries_at}
-use Rattle.closing.specs.Reported.{Message, is_gone}
+use Rattle.closing.specs.Reported.{Message, is_left_out}
 use Rattle.closing.specs.Numbers.{preface_of}
 use Rattle.closing.specs.Steps.{wait_for}
 use Rattle.closing.specs.Endings.{message_at, number_at}
@@ -84,11 +84,11 @@ are_used_once known active (it ∷ others) =
 
 -- ---- The law ----
 
--- the entries are such calls, and no request was cancelled or takes a message that was probed for
+-- the entries are such calls, and no request was cancelled, is moved or takes a message that was probed for
 pub record ArePlain (run : Run) (rank : ℕ) (entries : List Placed) : Type 0 where
   pub plain : list_all (λ placed. is_plain placed.called) entries ≡ true
   pub once : are_used_once [] [] (map (λ placed. placed.called) entries) ≡ true
-  pub none_gone : (request : ℕ) → is_gone (lines_at run rank) request ≡ false
+  pub none_out : (request : ℕ) → is_left_out (lines_at run rank) request ≡ false
   pub none_matched : (request : ℕ) → matched_message (lines_at run rank) request ≡ None
 
 -- the calls are those of the entries between the preface and the end, for some numbers of requests; none is

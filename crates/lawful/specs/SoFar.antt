@@ -6,7 +6,7 @@ use Rattle.journals.specs.Entries.{listing_of}
 use Rattle.journals.specs.Journal.{Journal}
 use Rattle.closing.specs.Keys.{Key}
 use Rattle.closing.specs.Entries.{Run, journal_at, entries_at}
-use Rattle.closing.specs.Reported.{is_gone}
+use Rattle.closing.specs.Reported.{is_left_out}
 use Rattle.closing.specs.Numbers.{number_of, preface_of}
 use Rattle.closing.specs.Steps.{Written}
 use Rattle.closing.specs.Endings.{why_at}
@@ -28,12 +28,12 @@ pub record IsContinued (run longer : Run) (rank : ℕ) : Type 0 where
   pub numbers : (key : Key) → number_of longer key ≡ number_of run key
   pub preface : preface_of longer rank ≡ preface_of run rank
 
--- its calls so far are plain, and none breaks its list off; no request is cancelled, so far or later, or takes
+-- its calls so far are plain, and none breaks its list off; no request is cancelled or moved, so far or later, or takes
 -- a message that was probed for
 pub record IsPlainSoFar (run : Run) (rank : ℕ) (later : Journal) : Type 0 where
   pub plain : list_all (λ placed. is_plain placed.called) (entries_at run rank) ≡ true
   pub none_breaks : list_all (λ placed. is_none (why_at run placed)) (entries_at run rank) ≡ true
-  pub none_gone : (request : ℕ) → is_gone later.lines request ≡ false
+  pub none_out : (request : ℕ) → is_left_out later.lines request ≡ false
   pub none_matched : (request : ℕ) → matched_message later.lines request ≡ None
 
 -- Law: the list of the longer run begins with the records so far.
