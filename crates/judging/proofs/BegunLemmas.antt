@@ -12,6 +12,7 @@ use Rattle.closing.specs.Entries.{Run}
 use Rattle.closing.specs.Journals.{RankFault, run_of, run_in}
 use Rattle.closing.specs.Numbers.{groups_of}
 use Rattle.closing.specs.Recordings.{RecordingView, calls_at, count_at}
+use Rattle.closing.specs.declared.choice.Choice.{Choice}
 use Rattle.lawful.specs.Laws.{IsRead}
 use Rattle.judging.specs.JournalTexts.{Known, AreKnown, AreOfFiles, IsFaultOfFiles}
 use Rattle.judging.specs.Judging.{IsFaultOfJudge}
@@ -49,11 +50,11 @@ module _ (known : Known) (journals : List (Option JournalRead)) (own : Run) (of 
           differs : ◌≡◌ {A = Result Run RankFault} (Ok (run_in journals)) (Err fault) → ⊥
           differs h = cc
 
-pub read_fault : (known : Known) (it : ReadFault) → IsFaultOfFiles known it → IsFaultOfJudge known (fault_of_reading it)
-read_fault known (read.Open rank) is = is
-read_fault known (read.Refused rank fault) is = is
-read_fault known (read.ReadFailed rank line) is = is
-read_fault known read.Memory is = tt
+pub read_fault : (known : Known) (choice : Choice) (it : ReadFault) → IsFaultOfFiles known it → IsFaultOfJudge known choice (fault_of_reading it)
+read_fault known choice (read.Open rank) is = is
+read_fault known choice (read.Refused rank fault) is = is
+read_fault known choice (read.ReadFailed rank line) is = is
+read_fault known choice read.Memory is = tt
 
 -- ---- The analyser ----
 

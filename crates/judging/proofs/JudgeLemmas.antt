@@ -1,5 +1,5 @@
 -- The report of the run that the files hold, or why there is none.
-use Rattle.std.proofs.Common.{◌≡◌, ◌∙◌, ℕ, Option, List, [], ◌++◌, Ok, Err, length, map, refl, sym, ap, subst, arith}
+use Rattle.std.proofs.Common.{◌≡◌, ◌∙◌, ℕ, true, Option, Some, None, List, [], ◌++◌, Ok, Err, length, map, refl, sym, ap, subst, arith}
 use Rattle.std.specs.Prelude.{Result, IfOk, IfErr, OnOk}
 use Rattle.std.specs.Result.{IsErrAnd}
 use Rattle.callstore.specs.Recordings.{Lists}
@@ -11,24 +11,27 @@ use Rattle.waitgraph.specs.PendingGraphs.{findings_by}
 use Rattle.waitgraph.specs.PendingStays.{FitsSinks}
 use Rattle.waitgraph.specs.declared.awaited.Awaited.{Awaited}
 use Rattle.waitgraph.specs.declared.verdict.Verdict.{Verdict}
-use Rattle.closing.specs.Entries.{Run}
+use Rattle.closing.specs.Entries.{Run, is_window}
 use Rattle.closing.specs.Entry.{Choice}
 use Rattle.closing.specs.Journals.{run_of}
 use Rattle.closing.specs.Recording.{recording_of, calls_of}
 use Rattle.closing.specs.Recordings.{RecordingView}
 use Rattle.closing.specs.Left.{left_of}
+use Rattle.closing.specs.declared.choice.Choice.{Choice as ChoiceMade}
 use Rattle.lawful.specs.Laws.{IsRead}
 use Rattle.report.specs.declared.judged.LineAt.{LineAt}
 use Rattle.report.specs.declared.write.Format.{Format}
 use Rattle.report.specs.declared.write.Format.TheVariants.{Text, Json}
 use Rattle.waitgraph.proofs.PendingStaysLemmas.{held_ranks_stay_by}
 use Rattle.judging.specs.JournalTexts.{Known, AreKnown}
-use Rattle.judging.specs.Judging.{IsJudgedReport, IsRecordingOfRun, IsFaultOfJudge, frees_start, left_words, reported_by}
+use Rattle.judging.specs.Judging.{IsJudgedReport, IsRecordingOfRun, IsFaultOfJudge, is_no_leak, left_words, reported_by}
 use Rattle.judging.specs.KnownCalls.{calls_at_opens, judged_choice, known_of}
 use Rattle.judging.specs.NamedCalls.{HaveLines, HaveNumbers, calls_in, calls_named, lines_of}
 use Rattle.judging.specs.declared.judge.JudgeFault.{JudgeFault}
-use Rattle.judging.specs.declared.judge.JudgeFault.TheVariants.{Read, Head, Refused, Unended, Memory, Write}
+use Rattle.judging.specs.declared.judge.JudgeFault.TheVariants.{Read, Head, Refused, Unended, Unclean, Memory, Write}
 use Rattle.judging.specs.declared.judge.Manner.{Manner}
+use Rattle.judging.specs.UnderWay.{EntryAt, unclean_at}
+use Rattle.judging.specs.inner.Cuts.{IsGathered, IsGatheredIfCut, IsOfCut}
 use Rattle.judging.specs.inner.Reported.{IsLined, IsReportedOf, IsRunOf, IsLate}
 use Rattle.judging.specs.inner.Tables.{HasAllLines}
 use Rattle.judging.specs.inner.Turns.{HasAll, IsDone, IsFresh}
@@ -44,11 +47,21 @@ numbered_in Json rows lines it are none all = numbered rows lines it (all refl) 
 numbered_in Text rows lines it are none all =
     subst (λ (ls : List LineAt). HaveNumbers (map lines_of (recording_of it.run it.choice).lists) ls) (sym (none refl)) (λ place other within. absurd (omega (arith, within)))
 
+-- the lists are gathered whose calls an analyser has, if a table has their lines where all journals are cut
+gathered : (begun it : RecordingView) (analysed : Analysed) (rows : List (List ℕ)) → HasAll begun it analysed → (is_window begun.run ≡ true → HasAllLines it rows) → IsGatheredIfCut it rows analysed
+gathered begun it analysed rows all lines = λ cut. record {
+  done = all.done;
+  groups = all.groups;
+  calls = all.recording;
+  lines = lines (ap is_window (sym all.run) ∙ cut);
+}
+
 module _ (known : Known) (manner : Manner) (begun : RecordingView) (run : IsRunOf known begun.run) (fresh : IsFresh begun) where
   module _ (it : RecordingView) (analysed : Analysed) (pending : PendingKnown) (choice : begun.choice ≡ judged_choice manner.choice) (has : IsFresh begun → IsRead begun.run → HasAll begun it analysed) (are_known : IsDone it → pending ≡ known_of it.run it.choice) where
-    pub judged_report : (rows : List (List ℕ)) (table : IsFresh begun → IsRead begun.run → manner.format ≡ Json → HasAllLines it rows) (verdict : Verdict) (report : List ℕ) →
+    pub judged_report : (rows : List (List ℕ)) (table : IsFresh begun → IsRead begun.run → manner.format ≡ Json → HasAllLines it rows) (window : IsFresh begun → IsRead begun.run → is_window begun.run ≡ true → HasAllLines it rows) →
+        (IsGatheredIfCut it rows analysed → unclean_at it.run it.choice ≡ None) → (verdict : Verdict) (report : List ℕ) →
         IsReportedOf it rows analysed pending manner verdict report → IsJudgedReport known manner verdict report
-    judged_report rows table verdict report of = record {
+    judged_report rows table window clean verdict report of = record {
       groups = analysed.groups;
       recording = analysed.recording;
       judged = of.judged;
@@ -86,28 +99,48 @@ module _ (known : Known) (manner : Manner) (begun : RecordingView) (run : IsRunO
               held_stay = λ reading rank held. held_ranks_stay_by reading analysed.groups analysed.recording pending rank fits held;
               findings_are =
                   of.findings all.done
-                  ∙ ap (λ (c : Choice). reported_by manner.choice.calls (frees_start it.run c) (findings_by analysed.groups analysed.recording pending.sinks)) own;
+                  ∙ ap (λ (c : Choice). reported_by manner.choice.calls (is_no_leak it.run c) (findings_by analysed.groups analysed.recording pending.sinks)) own;
               left_is = of.left all.done ∙ ap (λ (c : Choice). map left_words (left_of (recording_of it.run c).lists)) own;
               lines_are = subst (λ (c : Choice). HaveNumbers (map lines_of (recording_of it.run c).lists) of.judged.lines.now) own
                   (numbered_in manner.format rows of.judged.lines.now it of.lines.numbers of.lines.none (table fresh read));
+              is_clean = subst (λ (c : Choice). unclean_at it.run c ≡ None) own (clean (gathered begun it analysed rows all (window fresh read)));
             })
 
+  -- where the files are known, the entry is that at which the cut of their run isn't clean
+  pub cut_fault : (it : RecordingView) (analysed : Analysed) (choice : begun.choice ≡ judged_choice manner.choice) (has : IsFresh begun → IsRead begun.run → HasAll begun it analysed) (rows : List (List ℕ)) (window : IsFresh begun → IsRead begun.run → is_window begun.run ≡ true → HasAllLines it rows) →
+      (fault : JudgeFault) → IsOfCut it rows analysed fault → IsFaultOfJudge known manner.choice fault
+  cut_fault it analysed choice has rows window (Read fault) is = absurd is
+  cut_fault it analysed choice has rows window (Head fault) is = absurd is
+  cut_fault it analysed choice has rows window (Refused refusal) is = absurd is
+  cut_fault it analysed choice has rows window Unended is = absurd is
+  cut_fault it analysed choice has rows window (Unclean entry) is = λ first texts hold are reads.
+      let same : begun.run ≡ hold = run.same first texts hold are reads in
+      let read : IsRead begun.run = record { first = first; texts = texts; is_read = reads ∙ ap (λ (r : Run). Ok r) (sym same) } in
+      let all = has fresh read in
+      let said : EntryAt = record { rank = entry.rank; line = entry.line } in
+      let found : unclean_at it.run it.choice ≡ Some said = is (gathered begun it analysed rows all (window fresh read)) in
+      subst (λ (r : Run). unclean_at r (judged_choice manner.choice) ≡ Some said) (all.run ∙ same) (subst (λ (c : Choice). unclean_at it.run c ≡ Some said) (all.choice ∙ choice) found)
+  cut_fault it analysed choice has rows window Memory is = tt
+  cut_fault it analysed choice has rows window Write is = absurd is
+
   -- a fault of the recording other than want of memory comes of no known files
-  pub judge_fault : (fault : JudgeFault) → IsOfRecording fault → (IsFresh begun → IsRead begun.run → fault ≡ Memory) → IsFaultOfJudge known fault
+  pub judge_fault : (fault : JudgeFault) → IsOfRecording fault → (IsFresh begun → IsRead begun.run → fault ≡ Memory) → IsFaultOfJudge known manner.choice fault
   judge_fault (Read it) is lawful = absurd is
   judge_fault (Head it) is lawful = λ first texts r are h. let same : Head it ≡ Memory = lawful fresh (record { first = first; texts = texts; is_read = h ∙ ap (λ (o : Run). Ok o) (sym (run.same first texts r are h)) }) in cc
   judge_fault (Refused it) is lawful = λ first texts r are h. let same : Refused it ≡ Memory = lawful fresh (record { first = first; texts = texts; is_read = h ∙ ap (λ (o : Run). Ok o) (sym (run.same first texts r are h)) }) in cc
   judge_fault Unended is lawful = λ first texts r are h. let same : Unended ≡ Memory = lawful fresh (record { first = first; texts = texts; is_read = h ∙ ap (λ (o : Run). Ok o) (sym (run.same first texts r are h)) }) in cc
+  judge_fault (Unclean it) is lawful = λ first texts r are h. let same : Unclean it ≡ Memory = lawful fresh (record { first = first; texts = texts; is_read = h ∙ ap (λ (o : Run). Ok o) (sym (run.same first texts r are h)) }) in cc
   judge_fault Memory is lawful = tt
   judge_fault Write is lawful = absurd is
 
-pub late_fault : (known : Known) (fault : JudgeFault) → IsLate fault → IsFaultOfJudge known fault
-late_fault known (Read it) is = absurd is
-late_fault known (Head it) is = absurd is
-late_fault known (Refused it) is = absurd is
-late_fault known Unended is = absurd is
-late_fault known Memory is = tt
-late_fault known Write is = tt
+pub late_fault : (known : Known) (choice : ChoiceMade) (fault : JudgeFault) → IsLate fault → IsFaultOfJudge known choice fault
+late_fault known choice (Read it) is = absurd is
+late_fault known choice (Head it) is = absurd is
+late_fault known choice (Refused it) is = absurd is
+late_fault known choice Unended is = absurd is
+late_fault known choice (Unclean it) is = absurd is
+late_fault known choice Memory is = tt
+late_fault known choice Write is = tt
 
 -- what is so of an answer is so in other words
 pub if_ok : {T E : Type 0} (answer : Result T E) (P Q : T → Type 0) → ((it : T) → P it → Q it) → IfOk answer P → IfOk answer Q

@@ -20,3 +20,4 @@ pub mod SinkFitLemmas
 pub mod UnpendingLemmas
 pub mod PlainLemmas
 pub mod TableLemmas
+pub mod UnderWayLemmas

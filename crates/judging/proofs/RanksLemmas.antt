@@ -12,6 +12,7 @@ use Rattle.journals.specs.Text.{is_too_long, text_of, whole_lines}
 use Rattle.journals.specs.Lines.{Line}
 use Rattle.journals.specs.Journal.{Journal, Fault, lines_after, with_heading, after_header, journal_of_lines}
 use Rattle.journals.specs.declared.limits.TheConstants.{MOST_RANKS}
+use Rattle.journals.proofs.JournalLemmas.{moved_right}
 use Rattle.closing.specs.Journals.{journal_of}
 
 err_ok : {A B : Type 0} (e : B) (x : A) → ◌≡◌ {A = Result A B} (Err e) (Ok x) → ⊥
@@ -60,7 +61,7 @@ headed : (rank : ℕ) (first o : Option Heading) (header : List ℕ) (texts : Li
 headed rank first None header texts journal of is = absurd (err_ok _ journal is)
 headed rank first (Some heading) header texts journal of is =
     elim (cases_Bool (is_of_run first heading)) [
-      | inl own ↦ with_ranks heading journal (lines_after (record { ranks = heading.ranks; rank = rank }) [] texts) (header_fits rank header heading of) (rw own at is)
+      | inl own ↦ with_ranks heading journal (lines_after (record { ranks = heading.ranks; rank = rank }) [] texts) (header_fits rank header heading of) (moved_right heading (lines_after (record { ranks = heading.ranks; rank = rank }) [] texts) journal (rw own at is))
       | inr other ↦ absurd (err_ok _ journal (rw other at is))
     ]
 

@@ -1,6 +1,6 @@
 -- What `judge` reports: the report of a closed recording, and its verdict. Where the files of the journals are known, the
 -- recording is that of the run that they hold, or the fault is theirs.
-use Rattle.std.specs.Prelude.{◌≡◌, ℕ, Bool, false, not, Option, Ok, Err, List, [], ◌++◌, length, map, codes, ⊤}
+use Rattle.std.specs.Prelude.{◌≡◌, ℕ, ◌||◌, Bool, false, not, Option, Some, None, Ok, Err, List, [], ◌++◌, length, map, codes, ⊤}
 use Rattle.std.specs.List.{filter}
 use Rattle.mpicall.specs.Device.{one_more, AppendsBeginning}
 use Rattle.mpigroup.specs.Groups.{Groups, ranks_of}
@@ -22,12 +22,13 @@ use Rattle.report.specs.PendingReport.{pending_report}
 use Rattle.report.specs.declared.judged.Judged.{Judged}
 use Rattle.report.specs.declared.judged.LeftAt.{LeftAt}
 use Rattle.journals.specs.declared.limits.TheConstants.{MOST_RANKS}
-use Rattle.closing.specs.Entries.{Run}
+use Rattle.closing.specs.Entries.{Run, is_cut_off, journal_at}
 use Rattle.closing.specs.Entry.{Choice}
 use Rattle.closing.specs.Freed.{starts_freed}
 use Rattle.closing.specs.Journals.{RankFault, run_of}
 use Rattle.closing.specs.Recording.{recording_of, calls_of, list_of}
 use Rattle.closing.specs.Left.{Left, left_of}
+use Rattle.closing.specs.declared.choice.Choice.{Choice as ChoiceMade}
 use Rattle.closing.specs.declared.choice.Calls.{Calls}
 use Rattle.closing.specs.declared.choice.Calls.TheVariants.{Strict, Went}
 use Rattle.closing.specs.declared.why.Why.{Why}
@@ -35,9 +36,11 @@ use Rattle.closing.specs.declared.why.Why.TheVariants as why
 use Rattle.judging.specs.JournalTexts.{Known, AreKnown, IsFaultOfFiles}
 use Rattle.judging.specs.KnownCalls.{calls_at_opens, judged_choice, known_of}
 use Rattle.judging.specs.NamedCalls.{HaveLines, HaveNumbers, calls_in, calls_named, lines_of}
+use Rattle.judging.specs.UnderWay.{unclean_at}
 use Rattle.judging.specs.declared.judge.JudgeFault.{JudgeFault}
-use Rattle.judging.specs.declared.judge.JudgeFault.TheVariants.{Read, Memory, Write}
+use Rattle.judging.specs.declared.judge.JudgeFault.TheVariants.{Read, Unclean, Memory, Write}
 use Rattle.judging.specs.declared.judge.Manner.{Manner}
+use Rattle.judging.specs.declared.under_way.EntryAt.{EntryAt}
 
 -- ---- What the report of a run has in addition ----
 
@@ -51,9 +54,9 @@ abbrev pub reported_by : Calls → (ℕ → ℕ → Bool) → List Finding → L
 reported_by Went left_out findings = []
 reported_by Strict left_out findings = filter (λ finding. not (is_left_out left_out finding)) findings
 
--- the rank's program frees the request that its list starts at the place
-abbrev pub frees_start : Run → Choice → ℕ → ℕ → Bool
-frees_start run choice rank place = starts_freed run rank (list_of run choice rank) place
+-- the request that the rank's list starts at the place isn't leaked: the rank's program frees it, or goes on after a cut
+abbrev pub is_no_leak : Run → Choice → ℕ → ℕ → Bool
+is_no_leak run choice rank place = is_cut_off (journal_at run rank) || starts_freed run rank (list_of run choice rank) place
 
 abbrev pub words_of : Why → List ℕ
 words_of why.NeverCameBack = codes "never came back"
@@ -65,6 +68,7 @@ words_of why.CannotBe = codes "cannot be"
 words_of why.Stopped = codes "stopped"
 words_of why.Aborted = codes "aborted"
 words_of why.Full = codes "full"
+words_of why.Cut = codes "cut"
 words_of why.NotJudged = codes "not judged"
 words_of why.NoJournal = codes "no journal"
 
@@ -81,15 +85,17 @@ abbrev pub left_said : LeftAt → LeftWords
 left_said it = record { rank = it.rank; line = it.line; words = it.why.now }
 
 -- groups and lists are those of the run's recording, and what is known and said in addition is of it; each held rank
--- stays where it stands, whether sinks are met or not, however pending calls come back, and whatever stands behind them
+-- stays where it stands, whether sinks are met or not, however pending calls come back, and whatever stands behind them;
+-- where the journals of all ranks are cut, nothing is under way there
 pub record IsRecordingOfRun (run : Run) (choice : Choice) (groups : Groups) (recording : Lists) (pending : PendingKnown) (judged : Judged) : Type 0 where
   pub groups_are : groups ≡ (recording_of run choice).groups
   pub lists_are : recording ≡ map calls_of (recording_of run choice).lists
   pub known_are : pending ≡ known_of run choice
   pub held_stay : (reading : Reading) (rank : ℕ) → IsHeldBy reading groups recording pending rank → StaysPutBy reading groups recording pending rank
-  pub findings_are : judged.findings.now ≡ reported_by choice.calls (frees_start run choice) (findings_by groups recording pending.sinks)
+  pub findings_are : judged.findings.now ≡ reported_by choice.calls (is_no_leak run choice) (findings_by groups recording pending.sinks)
   pub left_is : map left_said judged.left.now ≡ map left_words (left_of (recording_of run choice).lists)
   pub lines_are : HaveNumbers (map lines_of (recording_of run choice).lists) judged.lines.now
+  pub is_clean : unclean_at run choice ≡ None
 
 -- ---- Reports ----
 
@@ -121,12 +127,20 @@ abbrev pub HoldNoRun : Known → Type 0
 HoldNoRun known =
     (first : List ℕ) (texts : ℕ → Option (List ℕ)) (run : Run) → AreKnown known (length run) first texts → run_of first texts ≡ Ok run → ⊥
 
--- the fault is that of reading the journals; no head, call or end of a recording of known files has one
-abbrev pub IsFaultOfJudge : Known → JudgeFault → Type 0
-IsFaultOfJudge known (Read fault) = IsFaultOfFiles known fault
-IsFaultOfJudge known Memory = ⊤
-IsFaultOfJudge known Write = ⊤
-IsFaultOfJudge known fault = HoldNoRun known
+-- where the files are known and hold a run, its cut isn't clean at this entry
+abbrev pub IsUnclean : Known → ChoiceMade → EntryAt → Type 0
+IsUnclean known choice entry =
+    (first : List ℕ) (texts : ℕ → Option (List ℕ)) (run : Run) → AreKnown known (length run) first texts → run_of first texts ≡ Ok run →
+    unclean_at run (judged_choice choice) ≡ Some (record { rank = entry.rank; line = entry.line })
+
+-- the fault is that of reading the journals, or that of their cut; no head, call or end of a recording of known files has
+-- one
+abbrev pub IsFaultOfJudge : Known → ChoiceMade → JudgeFault → Type 0
+IsFaultOfJudge known choice (Read fault) = IsFaultOfFiles known fault
+IsFaultOfJudge known choice (Unclean entry) = IsUnclean known choice entry
+IsFaultOfJudge known choice Memory = ⊤
+IsFaultOfJudge known choice Write = ⊤
+IsFaultOfJudge known choice fault = HoldNoRun known
 
 -- only a failed write leaves the output other than it was: with a prefix of a text, and one failure more
 abbrev pub LeavesAt : {O : Type 0} → (O → Option (List ℕ)) → (O → ℕ) → O → O → JudgeFault → Type 0

@@ -1,5 +1,6 @@
 -- What nobody has to believe: these definitions are cited by proofs and private contracts alone.
 pub mod Closed
+pub mod Cuts
 pub mod Heads
 pub mod Known
 pub mod OneJournal

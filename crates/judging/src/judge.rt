@@ -1,11 +1,12 @@
 //! The report of the recording that the journals of a run are.
 
-ghost use Rattle.std.specs.Prelude.{◌≡◌, ◌≤◌, ◌++◌, ℕ, All, List, true, length, map, IfErr, IfOk, OnOk};
+ghost use Rattle.std.specs.Prelude.{◌≡◌, ◌≤◌, ◌||◌, ◌++◌, ℕ, All, List, None, true, length, map, IfErr, IfOk, OnOk};
 ghost use Rattle.std.specs.Io.KnownBytes.{Appends};
 ghost use Rattle.callstore.specs.Recordings.{IsClosed};
 ghost use Rattle.waitgraph.specs.PendingGraphs.{IsGraphWith};
 ghost use Rattle.report.specs.declared.judged.TheConstants.{MOST_WORDS};
 ghost use Rattle.report.specs.declared.write.Format.TheVariants.{Json};
+ghost use Rattle.closing.specs.Entries.{is_window};
 ghost use Rattle.closing.specs.Numbers.{groups_of};
 ghost use Rattle.closing.specs.Recording.{recording_of};
 ghost use Rattle.closing.specs.Recordings.{choice_in};
@@ -13,7 +14,9 @@ ghost use Rattle.closing.specs.Left.{left_of, left_said as left_found};
 ghost use Rattle.lawful.specs.Laws.{IsRead};
 ghost use Rattle.judging.specs.Judging.{IsFaultOfJudge, IsJudgedReport, LeavesAt, left_said, left_words, words_of};
 ghost use Rattle.judging.specs.KnownCalls.{judged_choice, known_of};
+ghost use Rattle.judging.specs.UnderWay.{unclean_at};
 ghost use Rattle.judging.specs.WithoutPending.{WithoutPendingTheReportIsPlain};
+ghost use Rattle.judging.specs.inner.Cuts.{IsGatheredIfCut, IsOfCut};
 ghost use Rattle.judging.specs.inner.Known.{known_in};
 ghost use Rattle.judging.specs.inner.Reported.{IsLate, IsLined, IsReported, IsReportedOf, IsRunOf, fault_of_reading};
 ghost use Rattle.judging.specs.inner.Tables.{HasAllLines, HasTable, rows_of};
@@ -27,6 +30,7 @@ use crate::read::{Journals, ReadFault, read_journals};
 use crate::reported::reported_findings;
 use crate::spots::lines_of;
 use crate::turns::{LineTable, Lists};
+use crate::under_way::{EntryAt, unclean_at};
 use closing::choice::{Choice, Unreported};
 use closing::recording::Recording;
 use closing::walk::Left;
@@ -58,6 +62,8 @@ pub enum JudgeFault {
     Refused(Refusal),
     /// A list of the recording has no end. Those of journals have one.
     Unended,
+    /// The journals of all ranks are cut, and with this entry something is under way there.
+    Unclean(EntryAt),
     Memory,
     Write,
 }
@@ -118,6 +124,13 @@ fn has_lines(format: Format) -> bool
     matches!(format, Format::Json)
 }
 
+/// Whether one of two is so.
+fn is_either(first: bool, next: bool) -> bool
+    ensures { result ≡ (first || next) }
+{
+    first || next
+}
+
 /// As they are judged, lists go on behind receives whose messages aren't known.
 fn with_sinks(choice: Choice) -> Choice
     ensures { choice_in result ≡ judged_choice choice }
@@ -139,15 +152,17 @@ fn lists_of<J: Journals>(
     ensures choice { IfOk result (λ lists. lists.recording.choice ≡ judged_choice manner.choice) }
     ensures fresh { IfOk result (λ lists. IsFresh lists.recording) }
     ensures table { IfOk result (λ lists. manner.format ≡ Json → HasTable lists) }
+    ensures window { IfOk result (λ lists. is_window lists.recording.run ≡ true → HasTable lists) }
     ensures unwritten { IfErr result IsUnwritten }
-    ensures fault { IfErr result (IsFaultOfJudge (J.known journals.now)) }
+    ensures fault { IfErr result (IsFaultOfJudge (J.known journals.now) manner.choice) }
 {
     let journals = match read_journals(alloc, journals, wait) {
         Ok(journals) => journals,
         Err(fault) => return Err(of_reading(fault)),
     };
     let recording = Recording::of(alloc, journals, with_sinks(manner.choice))?;
-    let table = LineTable::new(alloc, recording.ranks(), has_lines(manner.format))?;
+    let is_wanted = is_either(has_lines(manner.format), recording.is_window());
+    let table = LineTable::new(alloc, recording.ranks(), is_wanted)?;
     Ok(Lists { recording, table })
 }
 
@@ -174,6 +189,18 @@ fn analyser_of(
         return Err(JudgeFault::Unended);
     }
     Ok(analyser)
+}
+
+/// Fails where the journals of all ranks are cut and something is under way there.
+fn check_cut(alloc: Global, lists: &Lists, analyser: &Analyser) -> Result<(), JudgeFault>
+    ensures clean { OnOk result (IsGatheredIfCut lists.now.recording (rows_of lists.now.table) analyser.now →
+        unclean_at lists.now.recording.run lists.now.recording.choice ≡ None) }
+    ensures fault { IfErr result (IsOfCut lists.now.recording (rows_of lists.now.table) analyser.now) }
+{
+    match unclean_at(alloc, lists, analyser)? {
+        Some(entry) => Err(JudgeFault::Unclean(entry)),
+        None => Ok(()),
+    }
 }
 
 /// Who waits for whom, and why, by what is known.
@@ -207,6 +234,7 @@ fn why_text(why: Why) -> &'static str
         Why::Stopped => "stopped",
         Why::Aborted => "aborted",
         Why::Full => "full",
+        Why::Cut => "cut",
         Why::NotJudged => "not judged",
         Why::NoJournal => "no journal",
     }
@@ -355,11 +383,12 @@ pub fn judge<J: Journals, O: Output>(
 ) -> Result<Verdict, JudgeFault>
     ensures written { IfOk result (λ verdict. (report : List ℕ) × IsJudgedReport (J.known journals.now) manner verdict report × Appends (O.written out.old) (O.written out.new) report) }
     ensures no_write_failed { OnOk result (O.failures out.new ≡ O.failures out.old) }
-    ensures fault { IfErr result (IsFaultOfJudge (J.known journals.now)) }
+    ensures fault { IfErr result (IsFaultOfJudge (J.known journals.now) manner.choice) }
     ensures output { IfErr result (LeavesAt O.written O.failures out.old out.new) }
 {
     let mut lists = lists_of(alloc, journals, manner, wait)?;
     let analyser = analyser_of(alloc, &mut lists, manner.reading, tracker)?;
+    check_cut(alloc, &lists, &analyser)?;
     let known = known_of(alloc, &lists.recording)?;
     let graph = graph_of(alloc, &analyser, &known)?;
     report(alloc, &lists, &analyser, &graph, &known, manner, out)

@@ -10,3 +10,4 @@ pub mod read;
 mod reported;
 mod spots;
 mod turns;
+pub mod under_way;

@@ -2,7 +2,7 @@
 
 ghost use Rattle.std.specs.Prelude.{◌≡◌, IfOk};
 ghost use Rattle.closing.specs.declared.choice.Calls.TheVariants.{Strict};
-ghost use Rattle.judging.specs.Judging.{frees_start, is_left_out, reported_by};
+ghost use Rattle.judging.specs.Judging.{is_no_leak, is_left_out, reported_by};
 ghost use Rattle.judging.specs.inner.Turns.{IsDone};
 
 use closing::choice::{Calls, Choice};
@@ -17,35 +17,37 @@ pub(crate) struct Spot {
     pub place: u32,
 }
 
-/// Whether the finding is of a request that its rank's program freed.
-fn is_of_freed(recording: &Recording, finding: &Finding) -> bool
-    ensures { IsDone recording.now → result ≡ is_left_out (frees_start recording.now.run recording.now.choice) finding.now }
+/// Whether the finding is of a request that its rank's program freed, or of a rank whose journal is cut.
+fn is_no_leak(recording: &Recording, finding: &Finding) -> bool
+    ensures { IsDone recording.now → result ≡ is_left_out (is_no_leak recording.now.run recording.now.choice) finding.now }
 {
     match *finding {
-        Finding::Request { rank, place, .. } => recording.starts_freed(rank, place),
+        Finding::Request { rank, place, .. } => {
+            recording.is_cut_off(rank) || recording.starts_freed(rank, place)
+        }
         _ => false,
     }
 }
 
-/// The findings but those of freed requests.
-fn but_freed(
+/// The findings but those of requests that aren't leaked.
+fn but_leaked(
     alloc: Global,
     recording: &Recording,
     findings: &[Finding],
 ) -> Result<Vec<Finding>, AllocError>
     ensures { IfOk result (λ reported. IsDone recording.now →
-        reported.items ≡ reported_by Strict (frees_start recording.now.run recording.now.choice) findings.now) }
+        reported.items ≡ reported_by Strict (is_no_leak recording.now.run recording.now.choice) findings.now) }
 {
     let mut reported = Vec::new(alloc);
     for finding in findings {
-        if !is_of_freed(recording, finding) {
+        if !is_no_leak(recording, finding) {
             reported.push(*finding)?;
         }
     }
     Ok(reported)
 }
 
-/// The findings but those of freed requests; as it went there is none.
+/// The findings but those of requests that aren't leaked; as it went there is none.
 #[tactic(auto, using(crate::proofs::ReportedLemmas::reported_went))]
 pub(crate) fn reported_findings(
     alloc: Global,
@@ -54,10 +56,10 @@ pub(crate) fn reported_findings(
     findings: &[Finding],
 ) -> Result<Vec<Finding>, AllocError>
     ensures { IfOk result (λ reported. IsDone recording.now →
-        reported.items ≡ reported_by choice.calls (frees_start recording.now.run recording.now.choice) findings.now) }
+        reported.items ≡ reported_by choice.calls (is_no_leak recording.now.run recording.now.choice) findings.now) }
 {
     match choice.calls {
         Calls::Went => Ok(Vec::new(alloc)),
-        Calls::Strict => but_freed(alloc, recording, findings),
+        Calls::Strict => but_leaked(alloc, recording, findings),
     }
 }

@@ -25,7 +25,7 @@ use Rattle.closing.specs.Recording.{recording_of}
 use Rattle.closing.specs.Recordings.{RecordingView}
 use Rattle.closing.specs.Left.{left_of}
 use Rattle.judging.specs.JournalTexts.{Known, AreKnown}
-use Rattle.judging.specs.Judging.{frees_start, left_said, left_words, reported_by}
+use Rattle.judging.specs.Judging.{is_no_leak, left_said, left_words, reported_by}
 use Rattle.judging.specs.declared.judge.JudgeFault.{JudgeFault}
 use Rattle.judging.specs.declared.judge.JudgeFault.TheVariants as fault
 use Rattle.judging.specs.declared.judge.Manner.{Manner}
@@ -68,7 +68,7 @@ pub record IsReportedOf (it : RecordingView) (rows : List (List ℕ)) (analysed 
   pub at_open : List (List Awaited)
   pub reported : IsReported manner.reading manner.format analysed.groups analysed.recording pending at_open judged verdict report
   pub findings : IsDone it → judged.findings.now
-      ≡ reported_by manner.choice.calls (frees_start it.run it.choice) (findings_by analysed.groups analysed.recording pending.sinks)
+      ≡ reported_by manner.choice.calls (is_no_leak it.run it.choice) (findings_by analysed.groups analysed.recording pending.sinks)
   pub left : IsDone it → map left_said judged.left.now ≡ map left_words (left_of (recording_of it.run it.choice).lists)
   pub lines : IsLined rows manner analysed pending at_open judged.findings.now judged.lines.now
 

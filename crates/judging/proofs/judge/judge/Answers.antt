@@ -6,7 +6,7 @@ use Rattle.judging.specs.declared.judge.JudgeFault.{JudgeFault}
 use Rattle.judging.specs.inner.Known.{known_in}
 use Rattle.judging.specs.inner.Reported.{IsLate, IsReportedOf}
 use Rattle.judging.specs.inner.Tables.{rows_of}
-use Rattle.judging.proofs.JudgeLemmas.{err_as, if_ok, if_err, judged_report, judge_fault, late_fault}
+use Rattle.judging.proofs.JudgeLemmas.{err_as, if_ok, if_err, judged_report, judge_fault, cut_fault, late_fault}
 use Rattle.judging.proofs.UnwrittenLemmas.{leaves_memory}
 use Rattle.judging.proofs.judge.judge.Goals as goal
 
@@ -14,14 +14,22 @@ pub returns-in_err-analyser-clause-fault : goal.returns-in_err-analyser-clause-f
 returns-in_err-analyser-clause-fault g c =
     let known = g.J.Journals.known c.args.journals.now in
     let lists = c.in_ok-lists.ensures in
-    err_as c.from_residual-in_err-analyser.result c.in_err-analyser.field-0.0 (IsFaultOfJudge known) c.from_residual-in_err-analyser.ensures.1
+    err_as c.from_residual-in_err-analyser.result c.in_err-analyser.field-0.0 (IsFaultOfJudge known c.args.manner.choice) c.from_residual-in_err-analyser.ensures.1
     (judge_fault known c.args.manner c.in_ok-lists.lists.recording lists.run lists.fresh c.in_err-analyser.field-0.0 c.in_err-analyser.ensures.fault c.in_err-analyser.ensures.lawful)
+
+pub returns-in_err-check_cut-clause-fault : goal.returns-in_err-check_cut-clause-fault
+returns-in_err-check_cut-clause-fault g c =
+    let known = g.J.Journals.known c.args.journals.now in
+    let lists = c.in_ok-lists.ensures in
+    err_as c.from_residual-in_err-check_cut.result c.in_err-check_cut.field-0.0 (IsFaultOfJudge known c.args.manner.choice) c.from_residual-in_err-check_cut.ensures.1
+    (cut_fault known c.args.manner c.in_ok-lists.lists.recording lists.run lists.fresh c.analyser_of.new.lists.recording c.in_ok-analyser.analyser lists.choice c.in_ok-analyser.ensures.all
+    (rows_of c.analyser_of.new.lists.table) (λ fresh read cut. c.in_ok-analyser.ensures.table fresh read (lists.window cut)) c.in_err-check_cut.field-0.0 c.in_err-check_cut.ensures.fault)
 
 pub returns-in_err-graph-clause-fault : goal.returns-in_err-graph-clause-fault
 returns-in_err-graph-clause-fault g c =
     let known = g.J.Journals.known c.args.journals.now in
-    err_as c.from_residual-in_err-graph.result c.in_err-graph.field-0.0 (IsFaultOfJudge known) c.from_residual-in_err-graph.ensures.1
-    (subst (λ (fault : JudgeFault). IsFaultOfJudge known fault) (sym c.in_err-graph.ensures.fault) tt)
+    err_as c.from_residual-in_err-graph.result c.in_err-graph.field-0.0 (IsFaultOfJudge known c.args.manner.choice) c.from_residual-in_err-graph.ensures.1
+    (subst (λ (fault : JudgeFault). IsFaultOfJudge known c.args.manner.choice fault) (sym c.in_err-graph.ensures.fault) tt)
 
 pub returns-in_err-graph-clause-output : goal.returns-in_err-graph-clause-output
 returns-in_err-graph-clause-output g c =
@@ -46,7 +54,7 @@ returns-clause-written g c =
     (λ verdict of. (
       of.0,
       judged_report known c.args.manner c.in_ok-lists.lists.recording lists.run lists.fresh it analysed pending lists.choice c.in_ok-analyser.ensures.all c.in_ok-known.ensures
-          rows (λ fresh read json. c.in_ok-analyser.ensures.table fresh read (lists.table json)) verdict of.0 of.1,
+          rows (λ fresh read json. c.in_ok-analyser.ensures.table fresh read (lists.table json)) (λ fresh read cut. c.in_ok-analyser.ensures.table fresh read (lists.window cut)) c.in_ok-check_cut.ensures.clean verdict of.0 of.1,
       of.2,
     ))
     c.report.ensures.written
@@ -54,4 +62,4 @@ returns-clause-written g c =
 pub returns-clause-fault : goal.returns-clause-fault
 returns-clause-fault g c =
     let known = g.J.Journals.known c.args.journals.now in
-    if_err c.report.result IsLate (IsFaultOfJudge known) (late_fault known) c.report.ensures.fault
+    if_err c.report.result IsLate (IsFaultOfJudge known c.args.manner.choice) (late_fault known c.args.manner.choice) c.report.ensures.fault

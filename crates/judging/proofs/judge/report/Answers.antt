@@ -3,7 +3,7 @@ use Rattle.std.proofs.Common.{◌∙◌, List, map, ap, sym, subst}
 use Rattle.findings.specs.declared.finding.Finding.{Finding}
 use Rattle.report.specs.declared.judged.LeftAt.{LeftAt}
 use Rattle.report.specs.declared.judged.LineAt.{LineAt}
-use Rattle.judging.specs.Judging.{frees_start, left_said, reported_by}
+use Rattle.judging.specs.Judging.{is_no_leak, left_said, reported_by}
 use Rattle.judging.specs.inner.Known.{known_in}
 use Rattle.judging.specs.inner.Reported.{IsLined}
 use Rattle.judging.specs.inner.Tables.{rows_of}
@@ -26,7 +26,7 @@ returns-clause-written g c =
         reported = of.1;
         findings = λ done.
             c.as_slice-2.ensures.value ∙ c.in_ok-findings.ensures done
-            ∙ ap (λ (fs : List Finding). reported_by calls (frees_start it.run it.choice) fs) (c.findings.ensures ∙ c.requires.graph.findings);
+            ∙ ap (λ (fs : List Finding). reported_by calls (is_no_leak it.run it.choice) fs) (c.findings.ensures ∙ c.requires.graph.findings);
         left = λ done. ap (λ (ls : List LeftAt). map left_said ls) c.as_slice-3.ensures.value ∙ c.in_ok-left.ensures.left done;
         lines =
             subst (λ (fs : List Finding). IsLined (rows_of c.args.lists.now.table) c.args.manner at known c.args.graph.now.at_open fs c.as_slice-4.result.now) (c.as_slice.ensures.value ∙ sym c.as_slice-2.ensures.value)
