@@ -190,6 +190,7 @@ module _ (told : Text → Option Text) (named : Text → Option Bool) (is_head :
       let e : None ≡ Some refusal = sym none ∙ own in cc
   no_fault_told path files (LintRefused fault) is are says other_status = says
   no_fault_told path files (RefusedJournal rank fault) is are says other_status = says
+  no_fault_told path files (UncleanCut entry) is are says other_status = says
   no_fault_told path files fault is are says other_status = other_status refl
 
   module _ {O E : Type 0} (written : O → Option Text) (failures : O → ℕ) (written_errors : E → Option Text) (failed_errors : E → ℕ) (old new : O) (old_errors new_errors : E) (ended : Status) where

@@ -1,6 +1,7 @@
 -- Which faults of `judge` and `close` are reported, and what they leave on standard output.
 use Rattle.std.proofs.Common.{◌≡◌, ℕ, Option, Bor, refl}
 use Rattle.clap.specs.Walk.{Text}
+use Rattle.closing.specs.declared.choice.Choice.{Choice}
 use Rattle.judging.specs.Closing.{IsFaultOfClose as IsFaultOfClosing}
 use Rattle.judging.specs.JournalTexts.{Known, IsFaultOfFiles}
 use Rattle.judging.specs.Judging.{IsFaultOfJudge as IsFaultOfJudging, LeavesAt}
@@ -15,11 +16,11 @@ use Rattle.cli.specs.inner.Journals.{of_read, of_judge, of_close}
 use Rattle.cli.specs.inner.Outputs.{LeavesAtFault}
 
 -- a fault of reading journals is one of `judge`, and of `close`
-read_in_judge : (known : Known) (folder : Bor Text) (fault : ReadFault) → IsFaultOfFiles known fault → IsFaultOfJudge known folder.now (of_read folder fault)
-read_in_judge known folder (read.Open rank) is = (refl, is)
-read_in_judge known folder (read.Refused rank fault) is = is
-read_in_judge known folder (read.ReadFailed rank line) is = is
-read_in_judge known folder read.Memory is = tt
+read_in_judge : (known : Known) (choice : Choice) (folder : Bor Text) (fault : ReadFault) → IsFaultOfFiles known fault → IsFaultOfJudge known choice folder.now (of_read folder fault)
+read_in_judge known choice folder (read.Open rank) is = (refl, is)
+read_in_judge known choice folder (read.Refused rank fault) is = is
+read_in_judge known choice folder (read.ReadFailed rank line) is = is
+read_in_judge known choice folder read.Memory is = tt
 
 read_in_close : (known : Known) (folder out : Bor Text) (fault : ReadFault) → IsFaultOfFiles known fault → IsFaultOfClose known folder.now out.now (of_read folder fault)
 read_in_close known folder out (read.Open rank) is = (refl, is)
@@ -27,13 +28,14 @@ read_in_close known folder out (read.Refused rank fault) is = is
 read_in_close known folder out (read.ReadFailed rank line) is = is
 read_in_close known folder out read.Memory is = tt
 
-pub may_judge : (known : Known) (folder : Bor Text) (fault : JudgeFault) → IsFaultOfJudging known fault → IsFaultOfJudge known folder.now (of_judge folder fault)
-may_judge known folder (judged.Read fault) is = read_in_judge known folder fault is
-may_judge known folder (judged.Head fault) is = is
-may_judge known folder (judged.Refused refusal) is = is
-may_judge known folder judged.Unended is = is
-may_judge known folder judged.Memory is = tt
-may_judge known folder judged.Write is = tt
+pub may_judge : (known : Known) (choice : Choice) (folder : Bor Text) (fault : JudgeFault) → IsFaultOfJudging known choice fault → IsFaultOfJudge known choice folder.now (of_judge folder fault)
+may_judge known choice folder (judged.Read fault) is = read_in_judge known choice folder fault is
+may_judge known choice folder (judged.Head fault) is = is
+may_judge known choice folder (judged.Refused refusal) is = is
+may_judge known choice folder judged.Unended is = is
+may_judge known choice folder (judged.Unclean entry) is = is
+may_judge known choice folder judged.Memory is = tt
+may_judge known choice folder judged.Write is = tt
 
 pub may_close : (known : Known) (folder out : Bor Text) (fault : CloseFault) → IsFaultOfClosing known fault → IsFaultOfClose known folder.now out.now (of_close folder out fault)
 may_close known folder out (closed.Read fault) is = read_in_close known folder out fault is
@@ -54,6 +56,7 @@ module _ {O : Type 0} (written : O → Option Text) (failures : O → ℕ) (old 
   judged_left folder (judged.Head fault) left = left
   judged_left folder (judged.Refused refusal) left = left
   judged_left folder judged.Unended left = left
+  judged_left folder (judged.Unclean entry) left = left
   judged_left folder judged.Memory left = left
   judged_left folder judged.Write left = (left.0, (left.1, left.2))
 

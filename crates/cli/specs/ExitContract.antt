@@ -101,7 +101,7 @@ IsDone told named NoMemory = λ status out err. ⊥
 abbrev pub IsFaultOf : (Text → Option Text) → (Text → Option Bool) → CommandLine → FaultOf → Type 0
 IsFaultOf told named (Check head files options progress) fault = IsFaultOfCheck told head.now files.items fault
 IsFaultOf told named (Lint file) fault = IsFaultOfLint told file.now fault
-IsFaultOf told named (Judge folder manner progress) fault = IsFaultOfJudge (known_in told named folder.now) folder.now fault
+IsFaultOf told named (Judge folder manner progress) fault = IsFaultOfJudge (known_in told named folder.now) manner.choice folder.now fault
 IsFaultOf told named (Close folder out choice) fault = IsFaultOfClose (known_in told named folder.now) folder.now out.now fault
 IsFaultOf told named (Said text is_error) fault = (fault ≡ Write) × (is_error ≡ false)
 IsFaultOf told named NoMemory fault = fault ≡ Memory

@@ -5,7 +5,7 @@ use Rattle.mpicall.specs.Codes.{text_of_lint}
 use Rattle.mpigroup.specs.Codes.{text_of_head}
 use Rattle.gather.specs.Codes.{text_of_refusal}
 use Rattle.cli.specs.declared.fault.Fault.{Fault}
-use Rattle.cli.specs.declared.fault.Fault.TheVariants.{Open, OpenJournal, RefusedJournal, FailedJournal, Make, ReadHead, Head, FileCount, Refused, Failed, LintRefused, LintFailed, Memory, Unproved, Write, WriteFile}
+use Rattle.cli.specs.declared.fault.Fault.TheVariants.{Open, OpenJournal, RefusedJournal, FailedJournal, UncleanCut, Make, ReadHead, Head, FileCount, Refused, Failed, LintRefused, LintFailed, Memory, Unproved, Write, WriteFile}
 use Rattle.journals.specs.Codes.{code_of}
 use Rattle.journals.specs.declared.fault.JournalFault.{JournalFault}
 use Rattle.journals.specs.declared.fault.JournalFaultKind.{JournalFaultKind}
@@ -31,6 +31,7 @@ abbrev pub text_of_fault : Fault → List ℕ
 text_of_fault (Open path) = codes "fault open " ++ path.now
 text_of_fault (OpenJournal folder rank) = codes "fault open " ++ (folder.now ++ (codes "/journal" ++ decimal rank))
 text_of_fault (RefusedJournal rank fault) = codes "refused rank " ++ (decimal rank ++ (codes " " ++ text_of_journal fault))
+text_of_fault (UncleanCut entry) = codes "refused rank " ++ (decimal entry.rank ++ (codes " line " ++ (decimal entry.line ++ codes " J11 cut")))
 text_of_fault (FailedJournal rank line) = codes "fault rank " ++ (decimal rank ++ (codes " line " ++ (decimal line ++ codes " E2 read failed")))
 text_of_fault (Make path) = codes "fault make " ++ path.now
 text_of_fault ReadHead = codes "fault read head"

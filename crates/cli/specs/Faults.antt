@@ -6,7 +6,7 @@ use Rattle.gather.specs.declared.fault.RunFault.{RunFault}
 use Rattle.gather.specs.declared.fault.RunFault.TheVariants as run
 use Rattle.mpicall.specs.declared.lint.LintFault.{LintFault}
 use Rattle.cli.specs.declared.fault.Fault.{Fault}
-use Rattle.cli.specs.declared.fault.Fault.TheVariants.{RefusedJournal, Head, FileCount, Refused, Failed, LintRefused, LintFailed, Memory, Unproved, Write}
+use Rattle.cli.specs.declared.fault.Fault.TheVariants.{RefusedJournal, UncleanCut, Head, FileCount, Refused, Failed, LintRefused, LintFailed, Memory, Unproved, Write}
 use Rattle.cli.specs.declared.status.Status.{Status}
 use Rattle.cli.specs.declared.status.Status.TheVariants as status
 use Rattle.driver.specs.VerdictContract.{is_from_outside}
@@ -18,6 +18,7 @@ status_of_fault (FileCount ranks files) = status.Usage
 status_of_fault (Refused refusal) = status.Refused
 status_of_fault (LintRefused fault) = status.Refused
 status_of_fault (RefusedJournal rank fault) = status.Refused
+status_of_fault (UncleanCut entry) = status.Refused
 status_of_fault fault = status.Fault
 
 abbrev pub of_head : HeadFault → Fault

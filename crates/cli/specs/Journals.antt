@@ -2,10 +2,11 @@
 use Rattle.std.specs.Prelude.{◌≡◌, ⊤}
 use Rattle.clap.specs.Walk.{Text}
 use Rattle.judging.specs.JournalTexts.{Known, IsFaultOfFiles}
-use Rattle.judging.specs.Judging.{HoldNoRun}
+use Rattle.closing.specs.declared.choice.Choice.{Choice}
+use Rattle.judging.specs.Judging.{HoldNoRun, IsUnclean}
 use Rattle.judging.specs.declared.read.ReadFault.TheVariants as read
 use Rattle.cli.specs.declared.fault.Fault.{Fault}
-use Rattle.cli.specs.declared.fault.Fault.TheVariants.{OpenJournal, RefusedJournal, FailedJournal, Make, Head, Refused, Memory, Unproved, Write, WriteFile}
+use Rattle.cli.specs.declared.fault.Fault.TheVariants.{OpenJournal, RefusedJournal, FailedJournal, UncleanCut, Make, Head, Refused, Memory, Unproved, Write, WriteFile}
 
 -- the faults of reading the journals in a folder are those of their files
 abbrev pub IsFaultOfJournals : Known → Text → Fault → Type 0
@@ -15,13 +16,14 @@ IsFaultOfJournals known folder (FailedJournal rank line) = IsFaultOfFiles known 
 IsFaultOfJournals known folder Memory = ⊤
 IsFaultOfJournals known folder fault = ⊥
 
--- these, and a failed write; a fault of their recording only where the files aren't known to hold a run
-abbrev pub IsFaultOfJudge : Known → Text → Fault → Type 0
-IsFaultOfJudge known folder (Head fault) = HoldNoRun known
-IsFaultOfJudge known folder (Refused refusal) = HoldNoRun known
-IsFaultOfJudge known folder (Unproved rank) = HoldNoRun known
-IsFaultOfJudge known folder Write = ⊤
-IsFaultOfJudge known folder fault = IsFaultOfJournals known folder fault
+-- these, that of a cut where something is under way, and a failed write; a fault of their recording only where the files aren't known to hold a run
+abbrev pub IsFaultOfJudge : Known → Choice → Text → Fault → Type 0
+IsFaultOfJudge known choice folder (UncleanCut entry) = IsUnclean known choice entry
+IsFaultOfJudge known choice folder (Head fault) = HoldNoRun known
+IsFaultOfJudge known choice folder (Refused refusal) = HoldNoRun known
+IsFaultOfJudge known choice folder (Unproved rank) = HoldNoRun known
+IsFaultOfJudge known choice folder Write = ⊤
+IsFaultOfJudge known choice folder fault = IsFaultOfJournals known folder fault
 
 -- these; the folder of the recording can't be made, or a file in it can't be written
 abbrev pub IsFaultOfClose : Known → Text → Text → Fault → Type 0

@@ -12,6 +12,7 @@ use crate::status::Status;
 use gather::fault::{RankFault, Refusal, RunFault};
 use journals::fault::{JournalFault, JournalFaultKind};
 use judging::read::ReadFault;
+use judging::under_way::EntryAt;
 use mpicall::fault::SourceFault;
 use mpicall::lint::LintFault;
 use mpigroup::fault::HeadFault;
@@ -27,6 +28,8 @@ pub enum Fault<'a> {
     OpenJournal { folder: &'a str, rank: u16 },
     RefusedJournal { rank: u16, fault: JournalFault },
     FailedJournal { rank: u16, line: u64 },
+    /// With this entry something is under way where the journals of all ranks are cut.
+    UncleanCut(EntryAt),
     Make(&'a str),
     ReadHead,
     Head(HeadFault),
@@ -78,6 +81,10 @@ impl fmt::Display for Fault<'_> {
             Fault::FailedJournal { rank, line } => {
                 write!(f, "fault rank {rank} line {line} E2 read failed")
             }
+            Fault::UncleanCut(entry) => {
+                let EntryAt { rank, line } = entry;
+                write!(f, "refused rank {rank} line {line} J11 cut")
+            }
             Fault::Make(path) => write!(f, "fault make {path}"),
             Fault::ReadHead => write!(f, "fault read head"),
             Fault::Head(fault) => write!(f, "refused head {fault}"),
@@ -120,7 +127,8 @@ impl Fault<'_> {
             Fault::Head(_)
             | Fault::Refused(_)
             | Fault::LintRefused(_)
-            | Fault::RefusedJournal { .. } => Status::Refused,
+            | Fault::RefusedJournal { .. }
+            | Fault::UncleanCut(_) => Status::Refused,
             Fault::FileCount { .. } => Status::Usage,
             Fault::Open(_)
             | Fault::OpenJournal { .. }

@@ -129,6 +129,7 @@ fn fault_of_judge<'a>(folder: &'a str, fault: JudgeFault) -> Fault<'a>
         JudgeFault::Head(fault) => Fault::Head(fault),
         JudgeFault::Refused(refusal) => Fault::Refused(refusal),
         JudgeFault::Unended => Fault::Unproved(0),
+        JudgeFault::Unclean(entry) => Fault::UncleanCut(entry),
         JudgeFault::Memory => Fault::Memory,
         JudgeFault::Write => Fault::Write,
     }
@@ -149,7 +150,7 @@ where
     L: Output + Send,
     R: Threads + Wait + Clock + Sync,
     ensures { let known = known_in (P.told journals.now.opener.now) (P.named journals.now.opener.now) journals.now.path.now in
-        IsAnswered O.written O.failures (EndsInJudged known manner) (IsFaultOfJudge known journals.now.path.now) out.old out.new result }
+        IsAnswered O.written O.failures (EndsInJudged known manner) (IsFaultOfJudge known manner.choice journals.now.path.now) out.old out.new result }
 {
     match judge_shown(journals, manner, rt, out, screen, shown) {
         Ok(verdict) => Ok(status_of(verdict)),

@@ -9,7 +9,7 @@ use Rattle.judging.specs.declared.judge.JudgeFault.TheVariants as judged
 use Rattle.judging.specs.declared.read.ReadFault.{ReadFault}
 use Rattle.judging.specs.declared.read.ReadFault.TheVariants as read
 use Rattle.cli.specs.declared.fault.Fault.{Fault}
-use Rattle.cli.specs.declared.fault.Fault.TheVariants.{OpenJournal, RefusedJournal, FailedJournal, Make, Head, Refused, Memory, Unproved, Write, WriteFile}
+use Rattle.cli.specs.declared.fault.Fault.TheVariants.{OpenJournal, RefusedJournal, FailedJournal, UncleanCut, Make, Head, Refused, Memory, Unproved, Write, WriteFile}
 
 -- of the journals in a folder
 abbrev pub of_read : Bor (List ℕ) → ReadFault → Fault
@@ -23,6 +23,7 @@ of_judge folder (judged.Read fault) = of_read folder fault
 of_judge folder (judged.Head fault) = Head fault
 of_judge folder (judged.Refused refusal) = Refused refusal
 of_judge folder judged.Unended = Unproved 0
+of_judge folder (judged.Unclean entry) = UncleanCut entry
 of_judge folder judged.Memory = Memory
 of_judge folder judged.Write = Write
 

@@ -28,5 +28,5 @@ pub record AnswersCheck {O : Type 0} (bytes : O → Option (List ℕ)) (failures
 pub record AnswersJudge {O : Type 0} (bytes : O → Option (List ℕ)) (failures : O → ℕ) (known : Known) (manner : Manner) (old new : O) (answer : Result Verdict JudgeFault) : Type 0 where
   pub written : IfOk answer (λ verdict. (report : List ℕ) × IsJudgedReport known manner verdict report × Appends (bytes old) (bytes new) report)
   pub no_write_failed : OnOk answer (failures new ≡ failures old)
-  pub fault : IfErr answer (IsFaultOfJudge known)
+  pub fault : IfErr answer (IsFaultOfJudge known manner.choice)
   pub output : IfErr answer (LeavesAt bytes failures old new)

@@ -34,7 +34,7 @@ returns-in-Judge g c =
     let written = g.O.Output.written in
     let failures = g.O.Output.failures in
     subst (λ (words : CommandLine). IsAnswered written failures (IsDone told named words) (IsFaultOf told named words) c.args.out.now c.answer_judge.new.out c.answer_judge.result) (sym c.in-Judge.is)
-    (of_folder g.P.Opener.told g.P.Opener.named (λ known folder. IsAnswered written failures (EndsInJudged known c.in-Judge.manner) (IsFaultOfJudge known folder) c.args.out.now c.answer_judge.new.out c.answer_judge.result)
+    (of_folder g.P.Opener.told g.P.Opener.named (λ known folder. IsAnswered written failures (EndsInJudged known c.in-Judge.manner) (IsFaultOfJudge known c.in-Judge.manner.choice folder) c.args.out.now c.answer_judge.new.out c.answer_judge.result)
     c.new-judged.result.opener c.args.opener c.new-judged.result.path c.in-Judge.folder c.new-judged.ensures.opener c.new-judged.ensures.path c.answer_judge.ensures)
 
 pub returns-in-Close : goal.returns-in-Close

@@ -29,6 +29,6 @@ returns-in-Err g c =
     let folder = c.args.journals.now in
     let known = known_in (g.P.Opener.told folder.opener.now) (g.P.Opener.named folder.opener.now) folder.path.now in
     let same = sym c.fault_of_judge-fault.ensures in
-    let may = subst (λ (f : Fault). IsFaultOfJudge known folder.path.now f) same (may_judge known folder.path c.in-Err.fault c.in-Err.ensures.fault) in
+    let may = subst (λ (f : Fault). IsFaultOfJudge known c.args.manner.choice folder.path.now f) same (may_judge known c.args.manner.choice folder.path c.in-Err.fault c.in-Err.ensures.fault) in
     let left = subst (λ (f : Fault). LeavesAtFault g.O.Output.written g.O.Output.failures c.args.out.now c.judge_shown.new.out f) same (judged_left g.O.Output.written g.O.Output.failures c.args.out.now c.judge_shown.new.out folder.path c.in-Err.fault c.in-Err.ensures.output) in
-    refused g.O.Output.written g.O.Output.failures (EndsInJudged known c.args.manner) (IsFaultOfJudge known folder.path.now) c.args.out.now c.judge_shown.new.out c.refuse.new.out c.fault_of_judge-fault.result c.refuse.result tt tt may left c.refuse.ensures
+    refused g.O.Output.written g.O.Output.failures (EndsInJudged known c.args.manner) (IsFaultOfJudge known c.args.manner.choice folder.path.now) c.args.out.now c.judge_shown.new.out c.refuse.new.out c.fault_of_judge-fault.result c.refuse.result tt tt may left c.refuse.ensures
