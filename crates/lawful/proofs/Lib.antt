@@ -53,6 +53,10 @@ pub mod LongerSteps
 pub mod LongerMakers
 pub mod LongerWaves
 pub mod LongerLists
+pub mod SinkStays
+pub mod SinkGoes
+pub mod SinkTakes
+pub mod SinkEntries
 pub mod NewNumbers
 pub mod NewSteps
 pub mod OutcomesOnce

@@ -64,7 +64,7 @@ begins_as old new one other is also begins =
 same_begins : (records : List Written) → Begins records records
 same_begins records = ([], sym (append-nil records))
 
-steps_append : (progress : Progress) (line : ℕ) (one two : List Step) → after_steps progress line (one ++ two) ≡ after_steps (after_steps progress line one) line two
+pub steps_append : (progress : Progress) (line : ℕ) (one two : List Step) → after_steps progress line (one ++ two) ≡ after_steps (after_steps progress line one) line two
 steps_append progress line [] two = refl
 steps_append progress line (step ∷ one) two = steps_append (after_step progress line step) line one two
 
@@ -187,7 +187,7 @@ breaks_begins run longer choice placed it others progress _ _ both without none 
 
 -- ---- A call that may make a communicator, of which none is reported ----
 
-maker_no_end : (it : Called) → makes_comm it ≡ true → is_end it ≡ false
+pub maker_no_end : (it : Called) → makes_comm it ≡ true → is_end it ≡ false
 maker_no_end (Duplicates comm) h = refl
 maker_no_end (Splits comm colour key) h = refl
 maker_no_end (Makes comm) h = refl
@@ -341,7 +341,7 @@ lists_stay run longer choice (placed ∷ entries) (other ∷ others) progress bo
 
 -- ---- A rank ----
 
-abbrev first_with : List Call → Progress
+abbrev pub first_with : List Call → Progress
 first_with calls = record { records = written 0 calls; active = []; late = [] }
 
 pub what_is_told_stays : WhatIsToldStays

@@ -43,7 +43,7 @@ StillAwaits None None = ⊤
 StillAwaits (Some one) (Some other) = (other.0 ≡ one.0) × ((it : Message) → one.1 ≡ Some it → other.1 ≡ Some it)
 StillAwaits one other = ⊥
 
-abbrev awaited_by : Entry → List Line → Called → Option (Awaited × Option Message)
+abbrev pub awaited_by : Entry → List Line → Called → Option (Awaited × Option Message)
 awaited_by entry lines (Receives awaited) = Some (awaited, got_in entry)
 awaited_by entry lines (StartsReceive request awaited) = Some (awaited, done_of lines request)
 awaited_by entry lines (Exchanges sent awaited) = Some (awaited, got_in entry)
@@ -52,7 +52,7 @@ awaited_by entry lines (Probes awaited) = Some (awaited, got_in entry)
 awaited_by entry lines (ProbesMatching message awaited) = Some (awaited, got_in entry)
 awaited_by entry lines it = None
 
-awaited_is : (placed : Placed) (it : Called) → placed.called ≡ it → awaited_at placed ≡ awaited_by placed.entry placed.journal.lines it
+pub awaited_is : (placed : Placed) (it : Called) → placed.called ≡ it → awaited_at placed ≡ awaited_by placed.entry placed.journal.lines it
 awaited_is placed (Receives awaited) is = rw is refl
 awaited_is placed (StartsReceive request awaited) is = rw is refl
 awaited_is placed (Exchanges sent awaited) is = rw is refl
@@ -96,7 +96,7 @@ done_kept placed it request m h =
     ap (λ (ls : List Line). done_of ls request) it.lines ∙ done_append placed.journal.lines it.more request
     ∙ ap (λ (o : Option Message). or_else o (done_of it.more request)) h
 
-message_kept : (placed : Placed) (it : More placed) → is_none (message_at placed) ≡ false → message_at (with_more placed it) ≡ message_at placed
+pub message_kept : (placed : Placed) (it : More placed) → is_none (message_at placed) ≡ false → message_at (with_more placed it) ≡ message_at placed
 message_kept placed it known =
     let now = awaited_is placed placed.called refl in
     let next = awaited_is (with_more placed it) placed.called refl in
@@ -107,12 +107,12 @@ message_kept placed it known =
     (subst (λ (o : Option (Awaited × Option Message)). is_none (message_by o) ≡ false) now known)
     ∙ sym (ap (λ (o : Option (Awaited × Option Message)). message_by o) now)
 
-known_kept : (placed : Placed) (it : More placed) → is_none (message_at placed) ≡ false → is_none (message_at (with_more placed it)) ≡ false
+pub known_kept : (placed : Placed) (it : More placed) → is_none (message_at placed) ≡ false → is_none (message_at (with_more placed it)) ≡ false
 known_kept placed it known = ap (λ (o : Option Message). is_none o) (message_kept placed it known) ∙ known
 
 -- ---- Why an entry ends the list ----
 
-not_false : (b : Bool) → not b ≡ false → b ≡ true
+pub not_false : (b : Bool) → not b ≡ false → b ≡ true
 not_false true h = refl
 not_false false h = absurd (false≢true (sym h))
 
@@ -164,7 +164,7 @@ told_kept placed it (Cancels request) all h =
     ap (λ (b : Bool). not b) (settled_kept placed it request (not_false (is_settled placed.journal.lines request) h))
 told_kept placed it _ all h = refl
 
-chose_by : (placed : Placed) (it : More placed) → is_none (report_of report.Chose placed.entry) ≡ false → report_of report.Chose it.entry ≡ report_of report.Chose placed.entry
+pub chose_by : (placed : Placed) (it : More placed) → is_none (report_of report.Chose placed.entry) ≡ false → report_of report.Chose it.entry ≡ report_of report.Chose placed.entry
 chose_by placed it h = of_line (report_of report.Chose placed.entry) refl h
   where
     of_line : (o : Option Line) → report_of report.Chose placed.entry ≡ o → is_none o ≡ false → report_of report.Chose it.entry ≡ report_of report.Chose placed.entry
@@ -249,7 +249,7 @@ ids_put : (lines : List Line) (request : ℕ) (requests : List ℕ) (b : Bool) �
 ids_put lines request requests true is = rw is refl
 ids_put lines request requests false is = rw is refl
 
-ids_stay : (lines later : List Line) (requests : List ℕ) → AllOf (StaysOf lines later) requests → ids_of later requests ≡ ids_of lines requests
+pub ids_stay : (lines later : List Line) (requests : List ℕ) → AllOf (StaysOf lines later) requests → ids_of later requests ≡ ids_of lines requests
 ids_stay lines later [] all = refl
 ids_stay lines later (request ∷ requests) all =
     ids_put later request requests (is_gone lines request) all.0.gone
@@ -290,9 +290,9 @@ any_stays lines later (one ∷ two ∷ requests) wanted all also =
     one_stays (ids_of later wanted) (ids_of later (one ∷ two ∷ requests)) (ids_of lines wanted) (ids_of lines (one ∷ two ∷ requests))
     (ids_stay lines later wanted also) (ids_stay lines later (one ∷ two ∷ requests) all)
 
-record ChosenStays (placed : Placed) (it : More placed) (requests : List ℕ) : Type 0 where
-  same : chosen (with_more placed it) requests ≡ chosen placed requests
-  all : AllOf (StaysOf placed.journal.lines it.later.lines) (chosen placed requests)
+pub record ChosenStays (placed : Placed) (it : More placed) (requests : List ℕ) : Type 0 where
+  pub same : chosen (with_more placed it) requests ≡ chosen placed requests
+  pub all : AllOf (StaysOf placed.journal.lines it.later.lines) (chosen placed requests)
 
 chosen_by : (placed : Placed) (it : More placed) → is_none (report_of report.Chose placed.entry) ≡ false → AllOf (StaysOf placed.journal.lines it.later.lines) (requests_in (report_of report.Chose placed.entry))
 chosen_by placed it h = of_line (report_of report.Chose placed.entry) refl h
@@ -301,7 +301,7 @@ chosen_by placed it h = of_line (report_of report.Chose placed.entry) refl h
     of_line None is e = absurd (false≢true (sym e))
     of_line (Some line) is e = it.chosen line is
 
-chosen_stays : (placed : Placed) (it : More placed) (requests : List ℕ) → AllOf (StaysOf placed.journal.lines it.later.lines) requests → chose_none placed requests ≡ false → ChosenStays placed it requests
+pub chosen_stays : (placed : Placed) (it : More placed) (requests : List ℕ) → AllOf (StaysOf placed.journal.lines it.later.lines) requests → chose_none placed requests ≡ false → ChosenStays placed it requests
 chosen_stays placed it [] all h = record {
   same = ap (λ (o : Option Line). requests_in o) (chose_by placed it h);
   all = chosen_by placed it h;

@@ -3,6 +3,7 @@ pub mod Fit
 pub mod Free
 pub mod Laws
 pub mod Longer
+pub mod LongerSinks
 pub mod Plain
 pub mod Same
 pub mod SinkPlaces

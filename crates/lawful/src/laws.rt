@@ -5,6 +5,7 @@ ghost use Rattle.lawful.specs.Fit.{EachRunThatWasReadIsFit};
 ghost use Rattle.lawful.specs.Free.{EachFinalizeIsAnEnd, EachFinalizeIsListedThrough, WhatIsGoneThroughEnds, WhatIsLeftIsOpen, WhatIsNotLeftIsAnEnd, WhatIsFreeIsWhole, SinksAloneAreLeft, NothingIsLeft};
 ghost use Rattle.lawful.specs.Laws.{EachRecordingIsLawful, EachRecordingReadsBack};
 ghost use Rattle.lawful.specs.Longer.{WhatIsToldStays};
+ghost use Rattle.lawful.specs.LongerSinks.{WhatIsToldStaysWithSinks};
 ghost use Rattle.lawful.specs.Plain.{EachPlainJournalStaysTheSame};
 ghost use Rattle.lawful.specs.Same.{OneNumberExactlyIfTheSame, CallsAreOnOneNumberExactlyIfOnOne, EachNumberHasItsGroup};
 ghost use Rattle.lawful.specs.SinkPlaces.{EachSinkHasItsPlace, NoneIsBehindASink, SinksAreInOrder};
@@ -118,6 +119,11 @@ pub fn what_is_so_far_stays()
 /// Where journals go on, with calls of any kind, each list begins with the records so far.
 pub fn what_is_told_stays()
     ensures { WhatIsToldStays }
+{}
+
+/// So each list does with sinks, but that in a sink's place a receive of a message that it takes may stand.
+pub fn what_is_told_stays_with_sinks()
+    ensures { WhatIsToldStaysWithSinks }
 {}
 
 /// What the making of a recording rests on is true of each run that was read.
