@@ -1,6 +1,6 @@
 -- What has come of an entry by the sinks before it, and so a list with sinks, stays when the journals go on.
 use Rattle.std.proofs.Common.{◌≡◌, ◌⊎◌, ℕ, ◌&&◌, ◌||◌, ◌==◌, not, Bool, true, false, Option, Some, None, is_some, is_none, if◌then◌else◌, List, [], ◌∷◌, ◌++◌, length, refl, sym, ap, subst, ◌∙◌, inl, inr, eq-eqb, append_assoc, append-nil}
-use Rattle.std.specs.Prelude.{⊤, option_and_then, unwrap_or}
+use Rattle.std.specs.Prelude.{option_and_then}
 use Rattle.std.specs.List.{list_all}
 use Rattle.std.specs.Option.{option_map_or}
 use Rattle.std.proofs.lemmas.Bool.{cases_Bool, false≢true, or_parts}
@@ -12,36 +12,33 @@ use Rattle.mpicall.specs.declared.call.Mode.TheVariants.{Standard}
 use Rattle.journals.specs.Lines.{Line}
 use Rattle.journals.specs.Known.{has_report, report_of}
 use Rattle.journals.specs.declared.word.ReportWord.TheVariants as report
-use Rattle.closing.specs.Called.{Called, Sent, Awaited, Receives, StartsReceive, Exchanges, StartsExchange, Probes, ProbesMatching, ReceivesMatched, Waits, Tests, WaitsAny, WaitsSome, Cancels}
-use Rattle.closing.specs.Keys.{Key}
+use Rattle.closing.specs.Called.{Called, Sent, Awaited, Receives, StartsReceive, Exchanges, StartsExchange, Probes, ProbesMatching, ReceivesMatched, Waits, Tests, WaitsAny, WaitsSome}
 use Rattle.closing.specs.RankComms.{makes_comm}
 use Rattle.closing.specs.Entries.{Run, Placed, entries_at}
 use Rattle.closing.specs.Reported.{Message, done_of, got_in, is_gone, message_of}
-use Rattle.closing.specs.Numbers.{named_key, number_of}
+use Rattle.closing.specs.Numbers.{named_key}
 use Rattle.closing.specs.Steps.{Own, Whole, Written, Progress, Step, Does, Starts, WaitsForAll, WaitsForOne, PutsOff, WaitsForLate, number_in, numbers_of, waits_for, wait_for_one, wait_one, plain, after_step, after_steps}
-use Rattle.closing.specs.Endings.{awaited_at, breaks_off, can_be, first_of, is_unknown, is_unreported, lacks_number, message_at, needs_number, number_at, why_at}
-use Rattle.closing.specs.Entry.{Choice, here_at, start_send, start_receive, on_comm, passes_tests, steps_by, steps_of, is_past}
-use Rattle.closing.specs.Recording.{Listed, is_end, steps_before, outcome_by, outcome_of, outcome_in, go_on, list_from, progress_first, whole_list}
+use Rattle.closing.specs.Endings.{awaited_at, breaks_off, can_be, is_unknown, is_unreported, lacks_number, message_at, needs_number, number_at, why_at}
+use Rattle.closing.specs.Entry.{Choice, here_at, start_send, start_receive, on_comm, steps_by, steps_of, is_past}
+use Rattle.closing.specs.Recording.{is_end, steps_before, outcome_by, outcome_in, go_on, list_from, progress_first, whole_list}
 use Rattle.closing.specs.Sinks.{Outcome, GoesOn, Ends, ends, blocks, sinks, starts_half, unsure, takes_by, takes_nothing, is_met, is_nobody, wanted_at, wanted_by, is_sound, by_call, request_received}
-use Rattle.closing.specs.declared.choice.Calls.TheVariants.{Strict}
-use Rattle.closing.specs.declared.choice.Unreported.TheVariants as unreported
 use Rattle.closing.specs.declared.pending.Wanted.{Wanted}
 use Rattle.closing.specs.declared.why.Why.{Why}
-use Rattle.closing.specs.declared.why.Why.TheVariants.{NeverCameBack, NeverReported, NotJudged, Failed, NoNumber, CannotBe}
+use Rattle.closing.specs.declared.why.Why.TheVariants.{NeverCameBack, NotJudged, Failed, NoNumber, CannotBe}
 use Rattle.lawful.specs.Longer.{IsKept, AllKept, is_silent}
-use Rattle.lawful.specs.LongerSinks.{IsWithin, wanted_of, AllStay, StayButLast, last_may_change, is_exchange, NoneIsFromNobody, WhatIsToldStaysWithSinks}
+use Rattle.lawful.specs.LongerSinks.{IsWithin, AllStay, StayButLast, last_may_change, is_exchange, NoneIsFromNobody, WhatIsToldStaysWithSinks}
 use Rattle.lawful.proofs.ActiveSends.{AllSteps}
-use Rattle.lawful.proofs.NewNumbers.{AllOf, Numbers}
+use Rattle.lawful.proofs.NewNumbers.{Numbers}
 use Rattle.lawful.proofs.PlainSteps.{strict_past}
 use Rattle.lawful.proofs.SoFarLemmas.{list_grows}
-use Rattle.lawful.proofs.LongerLemmas.{StaysOf, More, with_more, IsOver, IsLater, AreLater, entries_later}
+use Rattle.lawful.proofs.LongerLemmas.{StaysOf, More, with_more, IsOver, AreLater, entries_later}
 use Rattle.lawful.proofs.LongerSteps.{awaited_by, awaited_is, known_kept, message_kept, number_same}
 use Rattle.lawful.proofs.LongerMakers.{over_maker, told_maker}
 use Rattle.lawful.proofs.LongerWaves.{waves_same}
 use Rattle.lawful.proofs.LongerLists.{steps_append, first_with}
 use Rattle.lawful.proofs.SinkStays.{Pairs, Alike, IsCall, pairs_same, pairs_stay, calls_alike}
 use Rattle.lawful.proofs.SinkTakes.{met_stays, message_within, within_itself, nobody_known, wanted_comm, sink_step, still_alike, received_alike}
-use Rattle.lawful.proofs.SinkGoes.{Both, Fine, Comes, stops, IsLast, Result, Silent, MakerStays, NamesNone, Case, BeforeNone, five, none_by, sound_at, sound_kept, in_by, unsound_result, none_result, ended_result, waits_result, chooses_result}
+use Rattle.lawful.proofs.SinkGoes.{Both, Fine, Comes, stops, Result, Silent, MakerStays, NamesNone, Case, BeforeNone, five, none_by, sound_at, sound_kept, in_by, unsound_result, none_result, waits_result, chooses_result}
 
 -- ---- Takes ----
 
@@ -185,8 +182,11 @@ awaited_result run longer choice placed it entries old new comm awaited case wai
         ∙ met_stays wanted old.records new.records case.alike.records parts.1 in
         none_result run longer choice placed it entries old new case (before_told run choice placed (wait.told_known parts.0))
         (some_taken run choice old.records placed comm awaited wait.reported false wait.call wait.number wait.awaits takes met)
-        (λ why. (wait.names, some_taken longer choice new.records (with_more placed it) comm awaited wait.later false wait.next later wait.also
-        (something_still run longer placed it awaited case.fine (something placed awaited takes)) still))
+        (λ why. (
+          wait.names,
+          some_taken longer choice new.records (with_more placed it) comm awaited wait.later false wait.next later wait.also
+              (something_still run longer placed it awaited case.fine (something placed awaited takes)) still,
+        ))
 
     by_takes : (b : Bool) → takes_nothing placed awaited ≡ b → Result run longer choice placed it entries old new
     by_takes true takes =
@@ -570,14 +570,17 @@ result_stays run longer choice placed it entries others old new alike (inl comes
     (list_grows longer choice (with_more placed it ∷ others) new) rest
 result_stays run longer choice placed it entries others old new alike (inr last) rest =
     let adds = steps_add old placed.line last.steps in
-    inr (last.may, record {
-      before = old.records;
-      own = adds.own;
-      line = placed.line;
-      old_is = last.list ∙ adds.are;
-      own_line = adds.of_line;
-      stay = stay_grown old.records new.records (list_from longer choice new (with_more placed it ∷ others)).records alike.records (list_grows longer choice (with_more placed it ∷ others) new);
-    })
+    inr (
+      last.may,
+      record {
+        before = old.records;
+        own = adds.own;
+        line = placed.line;
+        old_is = last.list ∙ adds.are;
+        own_line = adds.of_line;
+        stay = stay_grown old.records new.records (list_from longer choice new (with_more placed it ∷ others)).records alike.records (list_grows longer choice (with_more placed it ∷ others) new);
+      },
+    )
 
 record Runs (run longer : Run) (choice : Choice) : Type 0 where
   both : Both run longer choice

@@ -1,5 +1,5 @@
 -- What comes of an entry by the sinks before it stays when its journal goes on, but in the places of sinks.
-use Rattle.std.proofs.Common.{◌≡◌, ◌⊎◌, ℕ, ◌&&◌, ◌||◌, not, Bool, true, false, Option, Some, None, is_some, is_none, if◌then◌else◌, List, [], ◌∷◌, ◌++◌, map, filter, refl, sym, ap, subst, ◌∙◌, inl, inr}
+use Rattle.std.proofs.Common.{◌≡◌, ◌⊎◌, ℕ, ◌&&◌, ◌||◌, not, Bool, true, false, Option, Some, None, is_some, is_none, if◌then◌else◌, List, [], ◌∷◌, map, filter, refl, sym, ap, subst, ◌∙◌, inl, inr}
 use Rattle.std.specs.Prelude.{⊤, option_and_then, unwrap_or}
 use Rattle.std.specs.List.{list_any}
 use Rattle.std.specs.Option.{option_map_or}
@@ -7,40 +7,34 @@ use Rattle.std.proofs.lemmas.Bool.{false≢true, or_parts}
 use Rattle.std.proofs.lemmas.Option.{none-some, same_Some}
 use Rattle.mpicall.specs.Word.{or_else}
 use Rattle.mpicall.specs.declared.call.Call.TheVariants.{Finalize, Open}
-use Rattle.mpicall.specs.declared.call.Mode.TheVariants.{Standard}
 use Rattle.journals.specs.Lines.{Line}
-use Rattle.journals.specs.Known.{has_report, is_any, report_of, requests_in}
-use Rattle.journals.specs.declared.field.Field.{Field}
-use Rattle.journals.specs.declared.field.Field.TheVariants.{Natural, Signed, Null, Any, Undefined}
+use Rattle.journals.specs.Known.{has_report, report_of, requests_in}
 use Rattle.journals.specs.declared.word.ReportWord.TheVariants as report
-use Rattle.closing.specs.Called.{Called, Sent, Awaited, StartsSend, Receives, StartsReceive, Exchanges, StartsExchange, Probes, ProbesMatching, ReceivesMatched, Waits, Tests, WaitsAny, WaitsSome, StartsCollective, StartsDuplicate}
+use Rattle.closing.specs.Called.{Called, Sent, Awaited, StartsSend, StartsReceive, StartsExchange, ProbesMatching, ReceivesMatched, Waits, Tests, WaitsAny, WaitsSome, StartsCollective, StartsDuplicate}
 use Rattle.closing.specs.Keys.{Key}
-use Rattle.closing.specs.RankComms.{Wave, makes_comm}
+use Rattle.closing.specs.RankComms.{makes_comm}
 use Rattle.closing.specs.Entries.{Run, Placed}
 use Rattle.closing.specs.Numbers.{named_key, number_of}
-use Rattle.closing.specs.Reported.{Message, done_of, is_gone, known_field, message_from, message_of, with_wildcards}
-use Rattle.closing.specs.Steps.{Id, Own, Whole, Sink, Written, Progress, Step, Does, Starts, WaitsForAll, WaitsForLate, after_step, after_steps}
-use Rattle.closing.specs.Endings.{awaited_at, breaks_off, can_be, chose_none, first_of, is_unknown, is_unreported, lacks_number, message_at, needs_number, number_at, why_at}
-use Rattle.closing.specs.Entry.{Choice, brings, here_at, start_send, start_receive, id_of, ids_of, is_past, maker, matched_message, chosen, passes_tests, pass_test, wait_for_all, wait_for_one, unless_past, starts, knowing, on_comm, on_none, steps_by, steps_of}
-use Rattle.closing.specs.Recording.{Listed, is_end, steps_before, outcome_by, outcome_of, outcome_in, go_on, list_from}
-use Rattle.closing.specs.Sinks.{Outcome, GoesOn, Ends, ends, blocks, sinks, starts_half, unsure, takes_by, takes_nothing, is_met, is_nobody, name_sink, sink_for, wanted_at, wanted_by, waits_by, chooses_by, is_sound, by_call, outcome_by_sinks, are_alike, overlap, sink_in, request_received, number_of as field_number}
+use Rattle.closing.specs.Reported.{Message, is_gone}
+use Rattle.closing.specs.Steps.{Id, Written, Progress, Step, WaitsForLate, after_steps}
+use Rattle.closing.specs.Endings.{breaks_off, can_be, chose_none, first_of, is_unknown, is_unreported, lacks_number, message_at, needs_number, number_at, why_at}
+use Rattle.closing.specs.Entry.{Choice, here_at, id_of, ids_of, maker, matched_message, chosen, passes_tests, pass_test, wait_for_all, wait_for_one, unless_past, on_comm, on_none, steps_by, steps_of}
+use Rattle.closing.specs.Recording.{is_end, steps_before, outcome_by, outcome_of, outcome_in, go_on, list_from}
+use Rattle.closing.specs.Sinks.{Outcome, GoesOn, Ends, ends, is_nobody, name_sink, sink_for, waits_by, chooses_by, is_sound, by_call, outcome_by_sinks}
 use Rattle.closing.specs.declared.choice.Calls.TheVariants.{Strict}
 use Rattle.closing.specs.declared.choice.Unreported.TheVariants as unreported
-use Rattle.closing.specs.declared.pending.Wanted.{Wanted}
 use Rattle.closing.specs.declared.why.Why.{Why}
 use Rattle.closing.specs.declared.why.Why.TheVariants.{NeverCameBack, NeverReported, NotJudged, Failed, NoNumber, CannotBe}
 use Rattle.lawful.specs.Longer.{IsKept, is_silent}
-use Rattle.lawful.specs.LongerSinks.{IsWithin, wanted_of, StaysThere, IsInPlace, AreWaits, last_may_change, is_exchange}
-use Rattle.lawful.proofs.ActiveSends.{AllSteps}
+use Rattle.lawful.specs.LongerSinks.{last_may_change, is_exchange}
 use Rattle.lawful.proofs.OwnSteps.{PassOwn, on_comm_all}
-use Rattle.lawful.proofs.NewNumbers.{AllOf, Numbers}
+use Rattle.lawful.proofs.NewNumbers.{AllOf}
 use Rattle.lawful.proofs.NoSinks.{clear}
 use Rattle.lawful.proofs.PlainSteps.{strict_past}
 use Rattle.lawful.proofs.LongerLemmas.{StaysOf, More, with_more, IsOver}
-use Rattle.lawful.proofs.LongerSteps.{ChosenStays, awaited_by, awaited_is, can_stay, chose_by, chosen_stays, ids_stay, known_kept, message_kept, number_same, steps_stay, why_stays}
-use Rattle.lawful.proofs.LongerMakers.{over_maker, told_maker}
-use Rattle.lawful.proofs.LongerLists.{maker_no_end, steps_append}
-use Rattle.lawful.proofs.SinkStays.{Pairs, Active, Alike, Clear, IsCall, IsOfSink, has_sink, is_active_sink, sinks_stay, none_sunk, none_found, start_alike, calls_alike, all_alike, one_alike, late_alike}
+use Rattle.lawful.proofs.LongerSteps.{can_stay, chose_by, chosen_stays, ids_stay, number_same, steps_stay, why_stays}
+use Rattle.lawful.proofs.LongerLists.{maker_no_end}
+use Rattle.lawful.proofs.SinkStays.{Pairs, Alike, Clear, IsCall, has_sink, is_active_sink, sinks_stay, none_sunk, none_found, calls_alike, all_alike, one_alike, late_alike}
 
 -- both runs have the same of communicators
 pub record Both (run longer : Run) (choice : Choice) : Type 0 where

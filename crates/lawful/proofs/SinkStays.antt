@@ -1,17 +1,15 @@
 -- Two lists whose records are the same but in the places of sinks have the same numbers of requests.
-use Rattle.std.proofs.Common.{◌≡◌, ◌⊎◌, ℕ, ◌+◌, ◌==◌, ◌||◌, not, max, Bool, true, false, Option, Some, None, is_some, is_none, unwrap_or, if◌then◌else◌, List, [], ◌∷◌, ◌++◌, length, map, take, filter, refl, sym, ap, subst, ◌∙◌, append-nil, inl, inr}
-use Rattle.std.specs.Prelude.{⊤, option_and_then}
+use Rattle.std.proofs.Common.{◌≡◌, ◌⊎◌, ℕ, ◌+◌, ◌==◌, ◌||◌, not, max, Bool, true, false, Option, Some, None, is_some, unwrap_or, if◌then◌else◌, List, [], ◌∷◌, ◌++◌, length, take, refl, sym, ap, subst, ◌∙◌, inl, inr}
+use Rattle.std.specs.Prelude.{⊤}
 use Rattle.std.specs.List.{find, list_any, range_with_len}
-use Rattle.std.specs.Option.{option_map_or}
 use Rattle.std.proofs.lemmas.Bool.{cases_Bool, false≢true, or_parts}
 use Rattle.std.proofs.lemmas.List.Folds.{list_any-append}
-use Rattle.std.proofs.lemmas.Option.{none-some, same_Some}
 use Rattle.mpicall.specs.declared.limits.TheConstants.{MOST_REQUESTS}
 use Rattle.mpicall.specs.declared.call.Call.{Call}
 use Rattle.closing.specs.Steps.{Id, Own, Whole, ReceiveHalf, Sink, Written, Progress, Step, Does, Starts, WaitsForAll, WaitsForOne, PutsOff, WaitsForLate, same_id, number_in, without, without_all, put_number, numbers_of, has_number, is_free, above, least_free, waits_for, wait_for_one, wait_one, plain, after_step, after_steps}
 use Rattle.closing.specs.Sinks.{is_of, sink_for, sink_in}
 use Rattle.closing.specs.declared.pending.Wanted.{Wanted}
-use Rattle.lawful.specs.LongerSinks.{StaysThere, AllStay, IsInPlace, IsSinkStill, IsReceived, AreWaits}
+use Rattle.lawful.specs.LongerSinks.{StaysThere, AllStay, IsInPlace, IsSinkStill, IsReceived}
 use Rattle.lawful.proofs.ActiveSends.{AllSteps}
 
 -- ---- Records ----
@@ -254,8 +252,10 @@ start_alike old new line id other call also alike ids stays =
       active = ((least, ids), alike.active);
       late = alike.late;
       also_late = alike.also_late;
-      covers = λ request none. rw (sink_last request old.records (record { call = call (least_free old.active); line = line; starts = Some id }) none,
-          alike.covers request (sink_first request old.records (record { call = call (least_free old.active); line = line; starts = Some id } ∷ []) none)) refl;
+      covers = λ request none. rw (
+        sink_last request old.records (record { call = call (least_free old.active); line = line; starts = Some id }) none,
+        alike.covers request (sink_first request old.records (record { call = call (least_free old.active); line = line; starts = Some id } ∷ []) none),
+      ) refl;
     }
 
 -- ---- The same steps ----
@@ -295,16 +295,18 @@ one_alike old new line id ids clear alike =
     by_number None = alike
     by_number (Some number) =
         waits_alike old new (number ∷ []) (plain line (wait_for_one number (take MOST_REQUESTS (numbers_of old.active ids)) ∷ []))
-        (plain line (wait_for_one number (take MOST_REQUESTS (numbers_of new.active ids)) ∷ [])) alike
-        (inr (inr (record {
-          number = number;
-          numbers = take MOST_REQUESTS (numbers_of old.active ids);
-          others = take MOST_REQUESTS (numbers_of new.active ids);
-          starts = refl;
-          also_starts = refl;
-          call = refl;
-          also_call = refl;
-        })), tt)
+        (plain line (wait_for_one number (take MOST_REQUESTS (numbers_of new.active ids)) ∷ [])) alike (
+          inr (inr (record {
+            number = number;
+            numbers = take MOST_REQUESTS (numbers_of old.active ids);
+            others = take MOST_REQUESTS (numbers_of new.active ids);
+            starts = refl;
+            also_starts = refl;
+            call = refl;
+            also_call = refl;
+          })),
+          tt,
+        )
 
 -- the waits before the end, where none is put off
 pub late_alike : (old new : Progress) (line : ℕ) → Alike old new → Alike (after_step old line WaitsForLate) (after_step new line WaitsForLate)

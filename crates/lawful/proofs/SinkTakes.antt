@@ -1,24 +1,21 @@
 -- What comes of a call that awaits a message stays when its journal goes on, but in the places of sinks.
-use Rattle.std.proofs.Common.{◌≡◌, ◌⊎◌, ℕ, ◌&&◌, ◌||◌, not, Bool, true, false, Option, Some, None, is_some, is_none, if◌then◌else◌, List, [], ◌∷◌, ◌++◌, refl, sym, ap, subst, ◌∙◌, inl, inr}
+use Rattle.std.proofs.Common.{◌≡◌, ◌⊎◌, ℕ, ◌&&◌, ◌||◌, Bool, true, false, Option, Some, None, is_none, if◌then◌else◌, List, [], ◌∷◌, refl, sym, ap, subst, ◌∙◌, inl, inr}
 use Rattle.std.specs.Prelude.{◌==◌}
-use Rattle.std.specs.List.{list_any}
 use Rattle.std.specs.Option.{option_map_or}
-use Rattle.std.proofs.lemmas.Bool.{and_parts, false≢true, or_parts}
+use Rattle.std.proofs.lemmas.Bool.{false≢true, or_parts}
 use Rattle.std.proofs.lemmas.Option.{none-some, same_Some}
-use Rattle.mpicall.specs.declared.call.Call.{Call}
-use Rattle.mpicall.specs.declared.call.Call.TheVariants.{Irecv, Open}
-use Rattle.mpicall.specs.declared.call.Mode.TheVariants.{Standard}
+use Rattle.mpicall.specs.declared.call.Call.TheVariants.{Irecv}
 use Rattle.mpicall.specs.declared.call.Peer.TheVariants as peer
 use Rattle.journals.specs.Known.{is_any}
 use Rattle.journals.specs.declared.field.Field.{Field}
 use Rattle.journals.specs.declared.field.Field.TheVariants.{Natural, Signed, Null, Any, Undefined}
-use Rattle.closing.specs.Called.{Called, Awaited}
+use Rattle.closing.specs.Called.{Awaited}
 use Rattle.closing.specs.Reported.{Message, known_field, message_from, message_of, with_wildcards}
 use Rattle.closing.specs.Steps.{Id, Own, Sink, Written, Progress, Step, Starts, least_free, after_step}
 use Rattle.closing.specs.Entry.{start_receive}
 use Rattle.closing.specs.Sinks.{is_met, is_nobody, wanted_by, are_alike, overlap, sink_in, number_of}
 use Rattle.closing.specs.declared.pending.Wanted.{Wanted}
-use Rattle.lawful.specs.LongerSinks.{IsWithin, wanted_of, StaysThere, IsInPlace, IsSinkStill, IsReceived, AreWaits}
+use Rattle.lawful.specs.LongerSinks.{IsWithin, wanted_of, StaysThere, IsInPlace, IsSinkStill, IsReceived}
 use Rattle.lawful.proofs.SinkStays.{Pairs, Alike, start_alike}
 
 -- ---- What may be taken ----

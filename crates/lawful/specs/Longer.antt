@@ -94,8 +94,9 @@ last_is_silent (placed ∷ others) = last_is_silent others
 abbrev pub Stays : List Placed → List Written → List Written → Type 0
 Stays entries old new = Begins old new ⊎ ((last_is_silent entries ≡ true) × BeginsButLast old new)
 
--- Law: the list of the longer run begins with the records so far, of calls of all kinds; up to its end, where it
--- ends. Only a last call that may make a communicator, of which none is reported so far, may be another such call.
+-- Law: the list of the longer run begins with the records so far, of calls of all kinds; up to its end, where it ends
+-- early. Only the record of a last call that may make a communicator, of which none is reported so far, may be that of
+-- another such call.
 abbrev pub WhatIsToldStays : Type 0
 WhatIsToldStays =
     (run longer : Run) (choice : Choice) (rank : ℕ) → choice.calls ≡ Strict → IsWithoutSinks run choice rank →

@@ -1,5 +1,5 @@
 -- Law of journals that go on, where lists have sinks: what a list has so far stays, but in the places of sinks.
-use Rattle.std.specs.Prelude.{◌≡◌, ◌⊎◌, ℕ, Bool, true, false, ◌&&◌, ◌||◌, ◌==◌, not, Option, Some, None, is_none, List, [], ◌∷◌, ◌++◌}
+use Rattle.std.specs.Prelude.{◌≡◌, ◌⊎◌, ℕ, Bool, true, false, ◌&&◌, ◌||◌, ◌==◌, not, Some, None, List, [], ◌∷◌, ◌++◌}
 use Rattle.std.specs.List.{list_all}
 use Rattle.mpicall.specs.declared.call.Call.TheVariants.{Irecv}
 use Rattle.mpicall.specs.declared.call.Peer.TheVariants as peer
@@ -54,7 +54,7 @@ pub record IsInPlace (one other : Written) : Type 0 where
   pub call : one.call ≡ Irecv number wanted.comm peer.Null 0
   pub stays : IsSinkStill own wanted number other ⊎ IsReceived own wanted number other
 
--- two waits for any of some, which one of them completed
+-- two waits for any of some requests, which the same one completed
 pub record AreWaits (one other : Written) : Type 0 where
   pub number : ℕ
   pub numbers : List ℕ
@@ -102,9 +102,10 @@ NoneIsFromNobody (placed ∷ entries) (later ∷ others) =
     ((it : Message) → message_at placed ≡ None → message_at later ≡ Some it → is_nobody it.source ≡ false) × NoneIsFromNobody entries others
 NoneIsFromNobody entries others = Unit {0}
 
--- Law: where tests are waits, the records so far stay in the list of the longer run, but that in a sink's place the
--- receive may stand of a message that it takes, and that a wait for any may name more. Those of a last call may
--- change, which may make a communicator, or is an exchange.
+-- Law: where tests are waits, the list of the longer run has the records so far in their places. In a sink's place the
+-- receive of a message that it takes may stand, and a wait for any may name more requests. Only the records of a last
+-- call may be others: of one that may make a communicator, of which none is reported, or of an exchange that never came
+-- back.
 abbrev pub WhatIsToldStaysWithSinks : Type 0
 WhatIsToldStaysWithSinks =
     (run longer : Run) (choice : Choice) (rank : ℕ) → choice.calls ≡ Strict → choice.unreported ≡ unreported.Sinks →
