@@ -2,7 +2,7 @@
 use Rattle.std.proofs.Common.{◌≡◌, ◌∙◌, ◌<◌, ◌≤◌, ◌+◌, ◌-◌, ◌&&◌, ◌||◌, ◌==◌, ℕ, suc, true, false, not, cond, refl, sym, ap, subst, arith, List, [], ◌∷◌, ◌++◌, length, map, take, append_assoc, length-append, Some, None, option_map, is_some, Err, inl, inr, eqb, leb, ltb}
 use Rattle.std.specs.Prelude.{nat_eq, IsTrue, position}
 use Rattle.std.specs.List.{list_all, list_any, position_or_len}
-use Rattle.std.specs.HashMap.{get}
+use Rattle.closing.specs.inner.Started.{active_at}
 use Rattle.std.proofs.lemmas.Bool.{cases_eq, cases_Bool, cond-true, cond-false, eq-eqb, ne_eqb, le-leb, lt-ltb, le-ltb, ltb-true, and_from, or_parts}
 use Rattle.std.proofs.lemmas.List.{append-nil, map-append, length-map, take_at, take_all}
 use Rattle.mpicall.specs.declared.call.Call.{Call}
@@ -115,9 +115,9 @@ all_stand handed progress line old mid waited new ids stands keeps takes puts sh
       numbered = subst (λ it. AreNumbered (without_all it progress.active) new) numbers
           (frees progress.active numbered (subst (AreHeld progress.active) (sym numbers) (held_numbers progress.active ids)));
       apart = all_apart (numbers_of progress.active ids) progress.active stands.apart;
-      own = λ id. ap (λ it. option_map (λ (one : Active). one.number) (get nat_eq it id)) maps ∙ takes.own id;
-      started = λ id. subst (λ it. IsStarted (progress.records ++ plain line (waits_for (length mid.numbers.items) mid.numbers.items)) id (get nat_eq it id)) (sym maps)
-          (started_more progress.records (plain line (waits_for (length mid.numbers.items) mid.numbers.items)) id (get nat_eq mid.active id)
+      own = λ id. ap (λ it. option_map (λ (one : Active). one.number) (active_at it id)) maps ∙ takes.own id;
+      started = λ id. subst (λ it. IsStarted (progress.records ++ plain line (waits_for (length mid.numbers.items) mid.numbers.items)) id (active_at it id)) (sym maps)
+          (started_more progress.records (plain line (waits_for (length mid.numbers.items) mid.numbers.items)) id (active_at mid.active id)
           (keeps.started progress.records id (stands.started id)));
       ids = subst (λ (it : Freed). HasIds handed.frees it) (sym (same.freed ∙ puts.freed ∙ keeps.freed)) stands.ids;
       places =
@@ -160,15 +160,15 @@ among_place number xs = elim (cases_Bool (list_any (λ other. other == number) x
 ]
 
 module _ (left : Requests) (found : List ℕ) (id : ℕ) (it : ListCode) (apart : AreApart left) (owns : Owns left it) where
-  pub finds_none : get nat_eq it.active id ≡ None → found ≡ found ++ found_number (number_in (without_all found left) (Own id))
+  pub finds_none : active_at it.active id ≡ None → found ≡ found ++ found_number (number_in (without_all found left) (Own id))
   finds_none none =
       sym (append-nil found) ∙ sym (ap (λ it. found ++ found_number it) (left_none found left id (sym (owns id) ∙ ap (option_map (λ (one : Active). one.number)) none)))
 
-  pub finds_known : (active : Active) → get nat_eq it.active id ≡ Some active → is_some (position (λ other. other == active.number) found) ≡ true → found ≡ found ++ found_number (number_in (without_all found left) (Own id))
+  pub finds_known : (active : Active) → active_at it.active id ≡ Some active → is_some (position (λ other. other == active.number) found) ≡ true → found ≡ found ++ found_number (number_in (without_all found left) (Own id))
   finds_known active has known =
       sym (append-nil found) ∙ sym (ap (λ it. found ++ found_number it) (left_gone found left id active.number apart (sym (owns id) ∙ ap (option_map (λ (one : Active). one.number)) has) (sym (among_place active.number found) ∙ known)))
 
-  pub finds_new : (active : Active) → get nat_eq it.active id ≡ Some active → is_some (position (λ other. other == active.number) found) ≡ false → found ++ active.number ∷ [] ≡ found ++ found_number (number_in (without_all found left) (Own id))
+  pub finds_new : (active : Active) → active_at it.active id ≡ Some active → is_some (position (λ other. other == active.number) found) ≡ false → found ++ active.number ∷ [] ≡ found ++ found_number (number_in (without_all found left) (Own id))
   finds_new active has unknown =
       sym (ap (λ it. found ++ found_number it) (left_there found left id active.number (sym (owns id) ∙ ap (option_map (λ (one : Active). one.number)) has) (sym (among_place active.number found) ∙ unknown)))
 
@@ -224,16 +224,16 @@ one_cut A B stop handed progress line old mid new wanted number ids stands found
     (lines_kept handed progress old mid stands (ap (λ records. records.items) keeps.records) keeps.count keeps.freed)) adds))
 
 pub one_stands : (handed : Handed) (progress : Progress) (line : ℕ) (old mid waited taken new : ListCode) (wanted : ℕ) (active : Active) (ids : List Id)
-    → Stands handed progress old → get nat_eq old.active wanted ≡ Some active → FindsOnly old mid → mid.numbers.items ≡ take MOST_REQUESTS (numbers_of progress.active ids)
+    → Stands handed progress old → active_at old.active wanted ≡ Some active → FindsOnly old mid → mid.numbers.items ≡ take MOST_REQUESTS (numbers_of progress.active ids)
     → Puts mid waited (wait_for_one active.number mid.numbers.items ∷ []) → waited.count < MOST_RECORDS
-    → SameRecords waited taken → taken.freed ≡ waited.freed → ((q : ℕ) → get nat_eq taken.active q ≡ cond (nat_eq wanted q) None (get nat_eq waited.active q))
+    → SameRecords waited taken → taken.freed ≡ waited.freed → ((q : ℕ) → active_at taken.active q ≡ cond (nat_eq wanted q) None (active_at waited.active q))
     → FreesOnly taken new → ((left : Requests) → AreNumbered left taken → has_number left active.number ≡ true → AreNumbered (without active.number left) new)
     → Stands handed (wait_one progress line (number_in progress.active (Own wanted)) (take MOST_REQUESTS (numbers_of progress.active ids))) new
 one_stands handed progress line old mid waited taken new wanted active ids stands has keeps numbers puts short same same_freed gone frees freed =
     let found : number_in progress.active (Own wanted) ≡ Some active.number = sym (stands.own wanted) ∙ ap (option_map (λ (one : Active). one.number)) has in
     let lines : HasLines handed progress mid = lines_kept handed progress old mid stands (ap (λ records. records.items) keeps.records) keeps.count keeps.freed in
     let map_was : waited.active ≡ old.active = puts.active ∙ keeps.active in
-    let went : (q : ℕ) → get nat_eq taken.active q ≡ cond (nat_eq wanted q) None (get nat_eq old.active q) = λ q. gone q ∙ ap (λ it. cond (nat_eq wanted q) None (get nat_eq it q)) map_was in
+    let went : (q : ℕ) → active_at taken.active q ≡ cond (nat_eq wanted q) None (active_at old.active q) = λ q. gone q ∙ ap (λ it. cond (nat_eq wanted q) None (active_at it q)) map_was in
     let numbered : AreNumbered progress.active taken =
     same_numbered progress.active old taken (same.free ∙ puts.free ∙ keeps.free) (same.given ∙ puts.given ∙ keeps.given) stands.numbered in
     subst (λ it. Stands handed (wait_one progress line it (take MOST_REQUESTS (numbers_of progress.active ids))) new) (sym found)
@@ -247,9 +247,9 @@ one_stands handed progress line old mid waited taken new wanted active ids stand
       given = omega (arith, frees.given, frees.count, same.given, same.count, puts.given, puts.count, keeps.given, keeps.count, stands.given);
       numbered = freed progress.active numbered (has_number_in progress.active (Own wanted) active.number found);
       apart = without_apart progress.active active.number stands.apart;
-      own = λ id. ap (λ it. option_map (λ (one : Active). one.number) (get nat_eq it id)) frees.active ∙ own_without progress.active wanted active old taken stands.apart stands.own has went id;
-      started = λ id. subst (λ it. IsStarted (progress.records ++ plain line (wait_for_one active.number mid.numbers.items ∷ [])) id (get nat_eq it id)) (sym frees.active)
-          (started_more progress.records (plain line (wait_for_one active.number mid.numbers.items ∷ [])) id (get nat_eq taken.active id)
+      own = λ id. ap (λ it. option_map (λ (one : Active). one.number) (active_at it id)) frees.active ∙ own_without progress.active wanted active old taken stands.apart stands.own has went id;
+      started = λ id. subst (λ it. IsStarted (progress.records ++ plain line (wait_for_one active.number mid.numbers.items ∷ [])) id (active_at it id)) (sym frees.active)
+          (started_more progress.records (plain line (wait_for_one active.number mid.numbers.items ∷ [])) id (active_at taken.active id)
           (gone_started wanted old taken went progress.records id (stands.started id)));
       ids = subst (λ (it : Freed). HasIds handed.frees it) (sym (frees.freed ∙ same_freed ∙ puts.freed ∙ keeps.freed)) stands.ids;
       places =
@@ -257,7 +257,7 @@ one_stands handed progress line old mid waited taken new wanted active ids stand
           (plain_starts handed.frees line (wait_for_one active.number mid.numbers.items ∷ [])) (frees.freed ∙ same_freed ∙ puts.freed ∙ keeps.freed) stands.places;
     }))
 
-pub one_none : (handed : Handed) (progress : Progress) (line : ℕ) (old : ListCode) (wanted : ℕ) (named : List ℕ) → Stands handed progress old → get nat_eq old.active wanted ≡ None
+pub one_none : (handed : Handed) (progress : Progress) (line : ℕ) (old : ListCode) (wanted : ℕ) (named : List ℕ) → Stands handed progress old → active_at old.active wanted ≡ None
     → Stands handed (wait_one progress line (number_in progress.active (Own wanted)) named) old
 one_none handed progress line old wanted named stands none =
     let found : number_in progress.active (Own wanted) ≡ None = sym (stands.own wanted) ∙ ap (option_map (λ (one : Active). one.number)) none in

@@ -17,6 +17,7 @@ pub mod NumberLemmas
 pub mod NumberLists
 pub mod PrefaceLemmas
 pub mod StandingLemmas
+pub mod StartedLemmas
 pub mod RequestReportLemmas
 pub mod WaitLemmas
 pub mod OutcomeOfEntry

@@ -1,9 +1,8 @@
 -- The list of a rank, as lines are added to it.
 use Rattle.std.proofs.Common.{◌≡◌, ◌∙◌, ◌<◌, ◌≤◌, ◌+◌, ◌-◌, ℕ, zero, suc, false, cond, refl, sym, ap, subst, arith, List, [], ◌∷◌, ◌++◌, length, take, append_assoc, length-append, Option, Some, None, option_map, Result, Ok, Err, inl, inr, eqb, ltb, le-ltb}
 use Rattle.std.specs.Prelude.{slice_get, nat_eq, IsTrue, if◌then◌else◌, ◌==◌, ◌||◌}
-use Rattle.std.specs.HashMap.{get}
+use Rattle.closing.specs.inner.Started.{active_at}
 use Rattle.std.specs.HashSet.{contains_by}
-use Rattle.std.specs.Map.{lookup}
 use Rattle.std.specs.BinaryHeap.{heap_items, IsHeap}
 use Rattle.std.proofs.lemmas.Bool.{cases_eq, cond-true, cond-false, eq-eqb, ne_eqb, le-leb, and_left}
 use Rattle.std.proofs.lemmas.List.{append-nil, map-append, length-map}
@@ -117,8 +116,8 @@ module _ (handed : Handed) (progress : Progress) (line : ℕ) (old new : ListCod
         given = omega (arith, puts.given, puts.count, stands.given);
         numbered = same_numbered progress.active old new puts.free puts.given stands.numbered;
         apart = stands.apart;
-        own = λ id. ap (λ it. option_map (λ active. active.number) (get nat_eq it id)) puts.active ∙ stands.own id;
-        started = λ id. rw puts.active (started_more progress.records more id (get nat_eq old.active id) (stands.started id));
+        own = λ id. ap (λ it. option_map (λ active. active.number) (active_at it id)) puts.active ∙ stands.own id;
+        started = λ id. rw puts.active (started_more progress.records more id (active_at old.active id) (stands.started id));
         ids = subst (λ (it : Freed). HasIds handed.frees it) (sym puts.freed) stands.ids;
         places = places_more handed.frees progress.records more old.freed new.freed none puts.freed stands.places;
       }
@@ -191,8 +190,8 @@ begun line id it number = record { call = start_call it number; line = line; sta
 start_stands : (handed : Handed) (progress : Progress) (line : ℕ) (old mid new : ListCode) (it : Start) (number : ℕ) (id : Id)
     → Stands handed progress old → KeepsRecords old mid → TakesFree progress.active old mid number → PutsStart mid new (start_call it number) → new.count < MOST_RECORDS
     → IsApart (id, number) progress.active
-    → ((q : ℕ) → option_map (λ active. active.number) (get nat_eq new.active q) ≡ number_in ((id, number) ∷ progress.active) (Own q))
-    → ((q : ℕ) → IsStarted (progress.records ++ begun line id it number ∷ []) q (get nat_eq new.active q))
+    → ((q : ℕ) → option_map (λ active. active.number) (active_at new.active q) ≡ number_in ((id, number) ∷ progress.active) (Own q))
+    → ((q : ℕ) → IsStarted (progress.records ++ begun line id it number ∷ []) q (active_at new.active q))
     → HasIds handed.frees new.freed → HasPlaces handed.frees (progress.records ++ begun line id it number ∷ []) new.freed
     → Stands handed (start progress line id (start_call it) number) new
 start_stands handed progress line old mid new it number id stands keeps takes puts short apart own starts ids places = record {
@@ -251,9 +250,9 @@ unnamed_stands handed progress line old mid new it number id stands unnamed keep
     let same : new.active ≡ old.active = puts.active ∙ keeps.active in
     start_stands handed progress line old mid new it number id stands keeps takes (puts_start mid new (start_call it number) puts) short
     (unnamed_apart id number progress.active unnamed takes.fresh)
-    (λ q. ap (λ map. option_map (λ active. active.number) (get nat_eq map q)) same ∙ stands.own q ∙ unnamed_own id number progress.active q unnamed)
-    (λ q. subst (λ map. IsStarted (progress.records ++ begun line id it number ∷ []) q (get nat_eq map q)) (sym same)
-    (started_more progress.records (begun line id it number ∷ []) q (get nat_eq old.active q) (stands.started q)))
+    (λ q. ap (λ map. option_map (λ active. active.number) (active_at map q)) same ∙ stands.own q ∙ unnamed_own id number progress.active q unnamed)
+    (λ q. subst (λ map. IsStarted (progress.records ++ begun line id it number ∷ []) q (active_at map q)) (sym same)
+    (started_more progress.records (begun line id it number ∷ []) q (active_at old.active q) (stands.started q)))
     (subst (λ (it : Freed). HasIds handed.frees it) (sym (puts.freed ∙ keeps.freed)) stands.ids)
     (places_more handed.frees progress.records (begun line id it number ∷ []) old.freed new.freed (stands.ids.unnamed id unnamed, tt) (puts.freed ∙ keeps.freed) stands.places)
 
@@ -294,7 +293,7 @@ pub record SameRecords (before new : ListCode) : Type 0 where
 pub named_stands : (handed : Handed) (progress : Progress) (line : ℕ) (old mid before new : ListCode) (it : Start) (active : Active) (id : ℕ)
     → Stands handed progress old → number_in progress.active (Own id) ≡ None → KeepsRecords old mid → TakesFree progress.active old mid active.number
     → Puts mid before (start_call it active.number ∷ []) → before.count < MOST_RECORDS
-    → SameRecords before new → ((q : ℕ) → get nat_eq new.active q ≡ cond (nat_eq id q) (Some active) (get nat_eq before.active q))
+    → SameRecords before new → ((q : ℕ) → active_at new.active q ≡ cond (nat_eq id q) (Some active) (active_at before.active q))
     → active.place ≡ mid.count → active.is_send ≡ is_start_of_send it
     → new.freed.ids ≡ before.freed.ids
     → ((other : ℕ) → has_place new.freed other ≡ (if active.place == other then (has_id before.freed id || has_place before.freed other) else has_place before.freed other))
@@ -315,23 +314,23 @@ named_stands handed progress line old mid before new it active id stands free ke
     (free, takes.fresh)
     (λ q. elim (cases_eq id q) [
       | inl e ↦
-          ap (option_map (λ (one : Active). one.number)) (inserts q ∙ cond-true (eqb id q) (Some active) (get nat_eq before.active q) (eq-eqb id q e))
+          ap (option_map (λ (one : Active). one.number)) (inserts q ∙ cond-true (eqb id q) (Some active) (active_at before.active q) (eq-eqb id q e))
           ∙ sym (cond-true (eqb id q) (Some active.number) (number_in progress.active (Own q)) (eq-eqb id q e))
       | inr apart ↦
-          ap (option_map (λ (one : Active). one.number)) (inserts q ∙ cond-false (eqb id q) (Some active) (get nat_eq before.active q) (ne_eqb id q apart) ∙ ap (λ map. get nat_eq map q) others)
+          ap (option_map (λ (one : Active). one.number)) (inserts q ∙ cond-false (eqb id q) (Some active) (active_at before.active q) (ne_eqb id q apart) ∙ ap (λ map. active_at map q) others)
           ∙ stands.own q
           ∙ sym (cond-false (eqb id q) (Some active.number) (number_in progress.active (Own q)) (ne_eqb id q apart))
     ])
     (λ q. elim (cases_eq id q) [
       | inl e ↦
           subst (IsStarted (progress.records ++ begun line (Own id) it active.number ∷ []) q)
-          (sym (inserts q ∙ cond-true (eqb id q) (Some active) (get nat_eq before.active q) (eq-eqb id q e)))
+          (sym (inserts q ∙ cond-true (eqb id q) (Some active) (active_at before.active q) (eq-eqb id q e)))
           (subst (IsStartOf q active) (sym (at_end progress.records (begun line (Own id) it active.number) active.place (place ∙ keeps.count ∙ stands.count)))
           (ap (λ n. Some (Own n)) e, sends_same it active.number ∙ sym sends))
       | inr apart ↦
           subst (IsStarted (progress.records ++ begun line (Own id) it active.number ∷ []) q)
-          (sym (inserts q ∙ cond-false (eqb id q) (Some active) (get nat_eq before.active q) (ne_eqb id q apart) ∙ ap (λ map. get nat_eq map q) others))
-          (started_more progress.records (begun line (Own id) it active.number ∷ []) q (get nat_eq old.active q) (stands.started q))
+          (sym (inserts q ∙ cond-false (eqb id q) (Some active) (active_at before.active q) (ne_eqb id q apart) ∙ ap (λ map. active_at map q) others))
+          (started_more progress.records (begun line (Own id) it active.number ∷ []) q (active_at old.active q) (stands.started q))
     ])
     (record {
       own = λ q. ap (λ ids. contains_by (nat_eq q) ids) (ids_same ∙ ap (λ (it : Freed). it.ids) freed) ∙ stands.ids.own q;
@@ -352,8 +351,8 @@ handed_on handed progress old new stands empty count active free given freed = r
   given = omega (arith, count, given, stands.given);
   numbered = same_numbered progress.active old new free given stands.numbered;
   apart = stands.apart;
-  own = λ id. ap (λ map. option_map (λ one. one.number) (get nat_eq map id)) active ∙ stands.own id;
-  started = λ id. subst (λ map. IsStarted progress.records id (get nat_eq map id)) (sym active) (stands.started id);
+  own = λ id. ap (λ map. option_map (λ one. one.number) (active_at map id)) active ∙ stands.own id;
+  started = λ id. subst (λ map. IsStarted progress.records id (active_at map id)) (sym active) (stands.started id);
   ids = subst (λ (it : Freed). HasIds handed.frees it) (sym freed) stands.ids;
   places = subst (λ (it : Freed). HasPlaces handed.frees progress.records it) (sym freed) stands.places;
 }
@@ -363,9 +362,8 @@ unfolding IsHeap
 heap_none = λ p k d low from to lt. absurd (omega arith)
 
 pub new_stands : (late : List Id) (handed : Handed) (freed : Freed) (it : ListCode) → handed.calls ≡ [] → HasIds handed.frees freed → ((place : ℕ) → has_place freed place ≡ false) → it.freed ≡ freed
-    → it.records.items ≡ [] → it.count ≡ 0 → it.active.entries ≡ [] → heap_items it.free ≡ [] → it.given ≡ 0 → Stands handed (record { records = []; active = []; late = late }) it
+    → it.records.items ≡ [] → it.count ≡ 0 → ((id : ℕ) → active_at it.active id ≡ None) → heap_items it.free ≡ [] → it.given ≡ 0 → Stands handed (record { records = []; active = []; late = late }) it
 new_stands late handed freed it none ids places same empty count active free given =
-    let nothing : (id : ℕ) → get nat_eq it.active id ≡ None = λ id. ap (λ entries. lookup (nat_eq id) entries) active in
     record {
       records = sym (ap (λ (xs : List Call). xs ++ it.records.items) none ∙ empty);
       count = count;
@@ -380,8 +378,8 @@ new_stands late handed freed it none ids places same empty count active free giv
         same = λ n. sym (and_left (ltb n it.given) (eqb (kept_count (heap_items it.free) n) 0) (le-ltb n it.given (omega (arith, given))));
       };
       apart = tt;
-      own = λ id. ap (option_map (λ (one : Active). one.number)) (nothing id);
-      started = λ id. subst (IsStarted [] id) (sym (nothing id)) tt;
+      own = λ id. ap (option_map (λ (one : Active). one.number)) (active id);
+      started = λ id. subst (IsStarted [] id) (sym (active id)) tt;
       ids = subst (λ (one : Freed). HasIds handed.frees one) (sym same) ids;
       places = λ place. ap (λ (one : Freed). has_place one place) same ∙ places place;
     }

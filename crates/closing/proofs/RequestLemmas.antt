@@ -2,7 +2,7 @@
 use Rattle.std.proofs.Common.{◌≡◌, ◌∙◌, ◌||◌, ◌==◌, ℕ, true, false, not, cond, refl, sym, ap, subst, List, [], ◌∷◌, ◌++◌, append_assoc, Option, Some, None, option_map, inl, inr, eqb}
 use Rattle.std.specs.Prelude.{nat_eq}
 use Rattle.std.specs.List.{list_any}
-use Rattle.std.specs.HashMap.{get}
+use Rattle.closing.specs.inner.Started.{active_at}
 use Rattle.std.proofs.lemmas.Bool.{cases_eq, cases_Bool, cond-true, cond-false, eq-eqb, eqb-true, ne_eqb, and_right, or_parts, or_left, or_right, both_ways}
 use Rattle.std.proofs.lemmas.List.{append-nil}
 use Rattle.closing.specs.Steps.{Id, Own, Whole, ReceiveHalf, Sink, Written, same_id, number_in, without, without_all, put_number, numbers_of, has_number}
@@ -155,8 +155,8 @@ found_first before active id ids =
 
 -- ---- The map of active requests ----
 
-pub took_one : (left : Requests) (id : ℕ) (active : Active) (old new : ListCode) → AreApart left → Owns left old → get nat_eq old.active id ≡ Some active
-    → ((q : ℕ) → get nat_eq new.active q ≡ cond (nat_eq id q) None (get nat_eq old.active q)) → new.numbers.items ≡ old.numbers.items ++ active.number ∷ [] → TakesOne left id old new
+pub took_one : (left : Requests) (id : ℕ) (active : Active) (old new : ListCode) → AreApart left → Owns left old → active_at old.active id ≡ Some active
+    → ((q : ℕ) → active_at new.active q ≡ cond (nat_eq id q) None (active_at old.active q)) → new.numbers.items ≡ old.numbers.items ++ active.number ∷ [] → TakesOne left id old new
 took_one left id active old new apart owns had gone listed =
     let found : number_in left (Own id) ≡ Some active.number = sym (owns id) ∙ ap (option_map (λ (one : Active). one.number)) had in
     let left_now : without_all (found_number (number_in left (Own id))) left ≡ without active.number left = ap (λ it. without_all (found_number it) left) found in
@@ -164,41 +164,41 @@ took_one left id active old new apart owns had gone listed =
       numbers = listed ∙ ap (λ it. old.numbers.items ++ found_number it) (sym found);
       own = λ q. elim (cases_eq id q) [
         | inl e ↦
-            ap (option_map (λ (one : Active). one.number)) (gone q ∙ cond-true (eqb id q) None (get nat_eq old.active q) (eq-eqb id q e))
+            ap (option_map (λ (one : Active). one.number)) (gone q ∙ cond-true (eqb id q) None (active_at old.active q) (eq-eqb id q e))
             ∙ sym (ap (λ it. number_in it (Own q)) left_now ∙ ap (λ it. number_in (without active.number left) (Own it)) (sym e) ∙ gone_after left id active.number apart found)
         | inr differs ↦
-            ap (option_map (λ (one : Active). one.number)) (gone q ∙ cond-false (eqb id q) None (get nat_eq old.active q) (ne_eqb id q differs))
+            ap (option_map (λ (one : Active). one.number)) (gone q ∙ cond-false (eqb id q) None (active_at old.active q) (ne_eqb id q differs))
             ∙ owns q
             ∙ sym (ap (λ it. number_in it (Own q)) left_now ∙ other_after left id active.number q apart found differs)
       ];
     }
 
-pub took_none : (left : Requests) (id : ℕ) (old new : ListCode) → Owns left old → get nat_eq old.active id ≡ None
-    → ((q : ℕ) → get nat_eq new.active q ≡ cond (nat_eq id q) None (get nat_eq old.active q)) → new.numbers.items ≡ old.numbers.items → TakesOne left id old new
+pub took_none : (left : Requests) (id : ℕ) (old new : ListCode) → Owns left old → active_at old.active id ≡ None
+    → ((q : ℕ) → active_at new.active q ≡ cond (nat_eq id q) None (active_at old.active q)) → new.numbers.items ≡ old.numbers.items → TakesOne left id old new
 took_none left id old new owns had gone listed =
     let found : number_in left (Own id) ≡ None = sym (owns id) ∙ ap (option_map (λ (one : Active). one.number)) had in
     record {
       numbers = listed ∙ sym (append-nil old.numbers.items) ∙ ap (λ it. old.numbers.items ++ found_number it) (sym found);
       own = λ q. ap (option_map (λ (one : Active). one.number)) (gone q) ∙ elim (cases_eq id q) [
         | inl e ↦
-            ap (option_map (λ (one : Active). one.number)) (cond-true (eqb id q) None (get nat_eq old.active q) (eq-eqb id q e) ∙ sym had ∙ ap (get nat_eq old.active) e)
+            ap (option_map (λ (one : Active). one.number)) (cond-true (eqb id q) None (active_at old.active q) (eq-eqb id q e) ∙ sym had ∙ ap (active_at old.active) e)
             ∙ owns q ∙ ap (λ it. number_in (without_all (found_number it) left) (Own q)) (sym found)
         | inr differs ↦
-            ap (option_map (λ (one : Active). one.number)) (cond-false (eqb id q) None (get nat_eq old.active q) (ne_eqb id q differs))
+            ap (option_map (λ (one : Active). one.number)) (cond-false (eqb id q) None (active_at old.active q) (ne_eqb id q differs))
             ∙ owns q ∙ ap (λ it. number_in (without_all (found_number it) left) (Own q)) (sym found)
       ];
     }
 
 -- no request has been started that wasn't
-pub gone_started : (id : ℕ) (old new : ListCode) → ((q : ℕ) → get nat_eq new.active q ≡ cond (nat_eq id q) None (get nat_eq old.active q))
-    → (records : List Written) (q : ℕ) → IsStarted records q (get nat_eq old.active q) → IsStarted records q (get nat_eq new.active q)
+pub gone_started : (id : ℕ) (old new : ListCode) → ((q : ℕ) → active_at new.active q ≡ cond (nat_eq id q) None (active_at old.active q))
+    → (records : List Written) (q : ℕ) → IsStarted records q (active_at old.active q) → IsStarted records q (active_at new.active q)
 gone_started id old new gone records q started = elim (cases_eq id q) [
-  | inl e ↦ subst (IsStarted records q) (sym (gone q ∙ cond-true (eqb id q) None (get nat_eq old.active q) (eq-eqb id q e))) tt
-  | inr differs ↦ subst (IsStarted records q) (sym (gone q ∙ cond-false (eqb id q) None (get nat_eq old.active q) (ne_eqb id q differs))) started
+  | inl e ↦ subst (IsStarted records q) (sym (gone q ∙ cond-true (eqb id q) None (active_at old.active q) (eq-eqb id q e))) tt
+  | inr differs ↦ subst (IsStarted records q) (sym (gone q ∙ cond-false (eqb id q) None (active_at old.active q) (ne_eqb id q differs))) started
 ]
 
 pub took_line : (id : ℕ) (old new : ListCode) → new.records ≡ old.records → new.count ≡ old.count → new.free ≡ old.free → new.given ≡ old.given → new.freed ≡ old.freed
-    → ((q : ℕ) → get nat_eq new.active q ≡ cond (nat_eq id q) None (get nat_eq old.active q)) → KeepsLines old new
+    → ((q : ℕ) → active_at new.active q ≡ cond (nat_eq id q) None (active_at old.active q)) → KeepsLines old new
 took_line id old new records count free given freed gone = record {
   records = records;
   count = count;
@@ -209,16 +209,16 @@ took_line id old new records count free given freed gone = record {
 }
 
 -- what the map of active requests has of others as one is gone
-pub own_without : (left : Requests) (id : ℕ) (active : Active) (old new : ListCode) → AreApart left → Owns left old → get nat_eq old.active id ≡ Some active
-    → ((q : ℕ) → get nat_eq new.active q ≡ cond (nat_eq id q) None (get nat_eq old.active q)) → Owns (without active.number left) new
+pub own_without : (left : Requests) (id : ℕ) (active : Active) (old new : ListCode) → AreApart left → Owns left old → active_at old.active id ≡ Some active
+    → ((q : ℕ) → active_at new.active q ≡ cond (nat_eq id q) None (active_at old.active q)) → Owns (without active.number left) new
 own_without left id active old new apart owns had gone = λ q.
     let found : number_in left (Own id) ≡ Some active.number = sym (owns id) ∙ ap (option_map (λ (one : Active). one.number)) had in
     elim (cases_eq id q) [
       | inl e ↦
-          ap (option_map (λ (one : Active). one.number)) (gone q ∙ cond-true (eqb id q) None (get nat_eq old.active q) (eq-eqb id q e))
+          ap (option_map (λ (one : Active). one.number)) (gone q ∙ cond-true (eqb id q) None (active_at old.active q) (eq-eqb id q e))
           ∙ sym (ap (λ it. number_in (without active.number left) (Own it)) (sym e) ∙ gone_after left id active.number apart found)
       | inr differs ↦
-          ap (option_map (λ (one : Active). one.number)) (gone q ∙ cond-false (eqb id q) None (get nat_eq old.active q) (ne_eqb id q differs))
+          ap (option_map (λ (one : Active). one.number)) (gone q ∙ cond-false (eqb id q) None (active_at old.active q) (ne_eqb id q differs))
           ∙ owns q
           ∙ sym (other_after left id active.number q apart found differs)
     ]

@@ -285,6 +285,36 @@ pub if_not : {A : Type 0} (b : Bool) (x y : A) → b ≡ false → (if b then x 
 if_not true x y e = cc
 if_not false x y e = refl
 
+-- ---- Where there are no sinks ----
+
+pub none_met : (records : List Written) (it : Sinks) (wanted : Wanted) → HasSinks records it → it.all.items ≡ [] → is_met records wanted ≡ false
+none_met records it wanted has none = sym (met_kept records it wanted has) ∙ ap (list_any (λ (sink : SinkKept). overlap wanted sink.wanted)) none
+
+pub blocks_plain : (spot : Spot) (came_back : Bool) (leaves : Leaves) (awaited : Awaited) (message : Option Said) (records : List Written) → is_some message ≡ true → ((wanted : Wanted) → is_met records wanted ≡ false)
+    → blocks_sunk spot came_back leaves awaited message records ≡ None
+blocks_plain spot came_back leaves awaited message records known met = by_wanted (wants_in spot.size spot.number awaited message)
+  where
+    by_wanted : (o : Option Wanted) → option_and_then (λ wanted. blocks_on spot came_back records (is_some message) wanted [] (steps_left leaves wanted (is_some message))) o ≡ None
+    by_wanted None = refl
+    by_wanted (Some wanted) =
+        ap (λ b. outcome_by_fate (fate_by b (is_met records wanted) came_back spot.is_past) [] (steps_left leaves wanted (is_some message))) known
+        ∙ ap (λ b. outcome_by_fate (fate_by true b came_back spot.is_past) [] (steps_left leaves wanted (is_some message))) (met wanted)
+
+no_sink : (gone : Bool) (outcome : Outcome) → (if is_sink_by gone true false then Some outcome else None) ≡ None
+no_sink true outcome = refl
+no_sink false outcome = refl
+
+pub starts_plain : (spot : Spot) (own : ℕ) (awaited : Awaited) (message : Option Said) (records : List Written) → is_some message ≡ true → ((wanted : Wanted) → is_met records wanted ≡ false)
+    → starts_receive_sunk spot own awaited message records ≡ None
+starts_plain spot own awaited message records known met = by_wanted (wants_in spot.size spot.number awaited message)
+  where
+    by_wanted : (o : Option Wanted) → option_and_then (λ wanted. if is_sink_by (is_gone spot.lines own) (is_some message) (is_met records wanted) then Some (GoesOn (sink_step (Some own) wanted (is_some message) ∷ [])) else None) o ≡ None
+    by_wanted None = refl
+    by_wanted (Some wanted) =
+        ap (λ b. if is_sink_by (is_gone spot.lines own) b (is_met records wanted) then Some (GoesOn (sink_step (Some own) wanted (is_some message) ∷ [])) else None) known
+        ∙ ap (λ b. if is_sink_by (is_gone spot.lines own) true b then Some (GoesOn (sink_step (Some own) wanted (is_some message) ∷ [])) else None) (met wanted)
+        ∙ no_sink (is_gone spot.lines own) (GoesOn (sink_step (Some own) wanted (is_some message) ∷ []))
+
 -- ---- An exchange that is pending ----
 
 pub exchange_items : (first mid : Pending) (pushed : List Item) (number least : ℕ) (wanted : Wanted) → pending_said first ≡ unknown → mid ≡ first

@@ -1,7 +1,7 @@
 -- Waits that name sinks, and what a pending one waits for.
 use Rattle.std.proofs.Common.{◌≡◌, refl, sym, ◌∙◌, ap, subst, ℕ, suc, ◌≤◌, Bool, true, false, ◌&&◌, ◌||◌, not, cond, if◌then◌else◌, Option, Some, None, option_and_then, option_map, Result, Ok, Err, List, [], ◌∷◌, ◌++◌, length, map, arith}
 use Rattle.std.specs.Prelude.{OnOk, is_some, is_none, nat_eq, option_to_list}
-use Rattle.std.specs.HashMap.{get}
+use Rattle.closing.specs.inner.Started.{active_at as started_at}
 use Rattle.std.specs.List.{filter, filter_map, find, list_all, list_any}
 use Rattle.std.proofs.lemmas.List.Elements.{filter_map-append}
 use Rattle.mpicall.specs.Word.{or_else}
@@ -132,9 +132,9 @@ module _ (lines : List Line) (standing : Standing) (sinks : Sinks) (list : ListC
   active_said : (request : ℕ) → StandsFor lines standing request
       → active_at standing list (Natural request) ≡ (if is_left_out lines request then None else option_map (λ number. item.Request number) (number_in progress.active (id_of lines request)))
   active_said request stands =
-      ap (λ b. if b then None else option_map (λ (active : Active). item.Request active.number) (get nat_eq list.active (id_in standing request))) (tells.left_out request)
+      ap (λ b. if b then None else option_map (λ (active : Active). item.Request active.number) (started_at list.active (id_in standing request))) (tells.left_out request)
       ∙ ap (λ o. if is_left_out lines request then None else o)
-      (by_number (get nat_eq list.active (id_in standing request))
+      (by_number (started_at list.active (id_in standing request))
       ∙ ap (option_map (λ number. item.Request number)) (owns (id_in standing request) ∙ ap (number_in progress.active) stands))
 
   item_said : (request : ℕ) → StandsFor lines standing request → item_at standing sinks list (Natural request) ≡ item_in lines progress request

@@ -2,7 +2,7 @@
 use Rattle.std.proofs.Common.{◌≡◌, ◌∙◌, ◌<◌, ◌≤◌, ◌+◌, ◌-◌, ◌*◌, ℕ, zero, suc, true, not, refl, sym, ap, subst, arith, List, [], ◌∷◌, ◌++◌, length, map, take, drop, get_or, append_assoc, length-append, length-drop, option_map, Result, Err, eqb, leb, ltb}
 use Rattle.std.specs.Prelude.{nat_eq, IsTrue}
 use Rattle.std.specs.List.{list_all}
-use Rattle.std.specs.HashMap.{get}
+use Rattle.closing.specs.inner.Started.{active_at}
 use Rattle.std.specs.BinaryHeap.{heap_items}
 use Rattle.std.proofs.lemmas.Bool.{ltb-true, le-leb, and_from, and_parts}
 use Rattle.std.proofs.lemmas.List.{append-nil, drop-drop, take-append-le, take_all, take_more, drop_more}
@@ -235,7 +235,7 @@ takes_more active ids id rest old new so_far one =
 pub takes_first : (active : Requests) (ids : List Id) (old it : ListCode) → Owns active old → it.numbers.items ≡ [] → it.active ≡ old.active → TakesSoFar active ids ids it
 takes_first active ids old it owns none same = record {
   numbers = ap (λ numbers. numbers ++ numbers_of (without_all numbers active) ids) none;
-  own = subst (λ numbers. Owns (without_all numbers active) it) (sym none) (λ id. ap (λ map. option_map (λ (one : Active). one.number) (get nat_eq map id)) same ∙ owns id);
+  own = subst (λ numbers. Owns (without_all numbers active) it) (sym none) (λ id. ap (λ map. option_map (λ (one : Active). one.number) (active_at map id)) same ∙ owns id);
 }
 
 pub takes_last : (active : Requests) (ids rest : List Id) (it : ListCode) → rest ≡ [] → TakesSoFar active ids rest it → TakesNumbers active ids it

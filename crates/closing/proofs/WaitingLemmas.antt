@@ -2,7 +2,7 @@
 use Rattle.std.proofs.Common.{◌≡◌, refl, sym, ◌∙◌, ap, subst, ℕ, Bool, true, false, not, Option, Some, None, Result, Ok, Err, List, [], ◌∷◌, ◌++◌, ◌<◌, ◌≤◌, ◌+◌, map, take, drop, get_or, length, inl, inr, arith, append_assoc}
 use Rattle.std.specs.Prelude.{nat_eq, IfSome, OnOk, is_some, option_map, slice_get, if◌then◌else◌}
 use Rattle.std.specs.List.{filter}
-use Rattle.std.specs.HashMap.{get}
+use Rattle.closing.specs.inner.Started.{active_at}
 use Rattle.std.proofs.lemmas.Bool.{cases_Bool, cond-true, cond-false}
 use Rattle.std.proofs.lemmas.List.{append-nil, map-append, drop_all, drop_more}
 use Rattle.mpicall.specs.declared.call.Call.TheVariants.{Open}
@@ -226,7 +226,7 @@ parts_all p xs place now all past so_far =
 kind_same : (lines : List Line) (handed : Handed) (p : Progress) (list : ListCode) (it : Standing) (request : ℕ)
     → Stands handed p list → StandsFor lines it request → HasKind lines p request → is_send_in list (id_in it request) ≡ is_of_send lines request
 kind_same lines handed p list it request stands same kind =
-    by_active (get nat_eq list.active (id_in it request))
+    by_active (active_at list.active (id_in it request))
     (ap (λ id. number_in p.active id) (sym same) ∙ sym (stands.own (id_in it request))) (stands.started (id_in it request))
   where
     starts_same : (found : Option Written) (active : Active) → StartsKind (is_of_send lines request) (id_of lines request) found

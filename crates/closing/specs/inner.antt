@@ -7,6 +7,7 @@ pub mod Free
 pub mod FreedIds
 pub mod RequestReports
 pub mod Lists
+pub mod Started
 pub mod Walks
 pub mod Walked
 pub mod Walking

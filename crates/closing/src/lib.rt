@@ -45,6 +45,7 @@ mod rank_comms;
 mod rank_numbers;
 pub mod recording;
 mod standing;
+mod started;
 mod stop;
 mod survey;
 pub mod walk;

@@ -1,14 +1,15 @@
 //! The list of a rank: its records so far, and the numbers of its requests.
 
-ghost use Rattle.std.specs.Prelude.{◌≡◌, ◌<◌, ◌≤◌, ◌+◌, [], ◌∷◌, ◌++◌, ℕ, List as Items, nat_eq, map, take, drop, length, slice_index, true, false, IsTrue, IfOk, OnOk};
-ghost use Rattle.std.specs.HashMap.{get};
+ghost use Rattle.std.specs.Prelude.{◌≡◌, ◌<◌, ◌≤◌, ◌+◌, [], ◌∷◌, ◌++◌, ℕ, List as Items, map, take, drop, length, slice_index, true, false, IsTrue, IfOk, OnOk};
 ghost use Rattle.mpicall.specs.Limits.{in_ranges};
 ghost use Rattle.closing.specs.inner.Free.{AreNumbered, KeepsFree, Requests, TakesLeast};
 ghost use Rattle.closing.specs.inner.Lists.{Adds, AreApart, AreHeld, AreSmall, ComesTo, FindsOnly, FreesOnly, Handed, HasIds, IsUnnamed, KeepsLines, KeepsRecords, Owns, Puts, Stands, TakesFree, TakesNumbers, TakesOne, found_call, found_number, has_place, is_send_in, is_start_of_send, start_call};
+ghost use Rattle.closing.specs.inner.Started.{active_at};
 ghost use Rattle.closing.specs.Steps.{Does, Id, Own, Progress, Starts, WaitsForAll, WaitsForOne, after_step, has_number, least_free, number_in, numbers_of, wait_for, wait_for_one, waits_for, without, without_all};
 
 use crate::freed::Freed;
 use crate::places::index_of;
+use crate::started::Started;
 use crate::stop::Stop;
 use crate::why::Why;
 use mpicall::call::{Call, Kind, Mode, Peer};
@@ -17,7 +18,7 @@ use mpicall::record::Record;
 use mpicall::reqs::Reqs;
 use std::alloc::{AllocError, Global};
 use std::cmp::Reverse;
-use std::collections::{BinaryHeap, HashMap};
+use std::collections::BinaryHeap;
 
 /// The most records of a list, its end counted.
 pub const MOST_RECORDS: u32 = 1_000_000;
@@ -97,7 +98,7 @@ pub(crate) struct List {
     /// How many records there are in all.
     count: u32,
     /// The active requests, by the rank's own numbers of requests and messages.
-    active: HashMap<u32, Active>,
+    active: Started,
     /// Numbers of requests that are free again, and how many were given in all.
     free: BinaryHeap<Reverse<u32>>,
     given: u32,
@@ -169,7 +170,7 @@ impl List {
         List {
             records: Vec::new(alloc),
             count: 0,
-            active: HashMap::new(alloc),
+            active: Started::new(alloc),
             free: BinaryHeap::new(alloc),
             given: 0,
             numbers: Vec::new(alloc),
@@ -196,9 +197,9 @@ impl List {
 
     /// The request of the rank's own number that no line completed so far.
     pub(crate) fn active(&self, id: u32) -> Option<Active>
-        ensures { result ≡ get nat_eq self.now.active id }
+        ensures { result ≡ active_at self.now.active id }
     {
-        self.active.get(&id).copied()
+        self.active.get(id)
     }
 
     /// Whether the record at a place starts a request that the rank's program frees.
@@ -325,7 +326,7 @@ impl List {
         ensures takes { OnOk result ((left : Requests) → AreApart left → Owns left self.old → TakesOne left id self.old self.new) }
         ensures same { OnOk result (KeepsLines self.old self.new) }
     {
-        let Some(active) = self.active.remove(&id) else {
+        let Some(active) = self.active.remove(id) else {
             return Ok(());
         };
         self.numbers.push(active.number)?;
@@ -444,11 +445,11 @@ impl List {
 
     /// Puts a wait for any of some requests, which completed this one that is active.
     fn waits_for_active(&mut self, wanted: u32, active: Active, ids: &[u32]) -> Result<(), Stop>
-        ensures { (handed : Handed) (progress : Progress) (line : ℕ) → Stands handed progress self.old → get nat_eq self.old.active wanted ≡ Some active → ComesTo result handed (after_step progress line (WaitsForOne (Own wanted) (map Own ids.now))) line self.new }
+        ensures { (handed : Handed) (progress : Progress) (line : ℕ) → Stands handed progress self.old → active_at self.old.active wanted ≡ Some active → ComesTo result handed (after_step progress line (WaitsForOne (Own wanted) (map Own ids.now))) line self.new }
     {
         self.find_numbers(ids)?;
         self.waits_for_number(active.number)?;
-        self.active.remove(&wanted);
+        self.active.remove(wanted);
         self.free_number(active.number)?;
         Ok(())
     }

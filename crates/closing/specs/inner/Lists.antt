@@ -1,6 +1,6 @@
 -- The list of a rank so far, as it is kept, against the progress of the definitions.
 use Rattle.std.specs.Prelude.{◌≡◌, ℕ, ◌+◌, ◌-◌, ◌<◌, ◌≤◌, nat_eq, Bool, true, false, Option, Some, None, option_map, Result, Ok, Err, List, [], ◌∷◌, ◌++◌, length, map, take, slice_get}
-use Rattle.std.specs.HashMap.{get}
+use Rattle.closing.specs.inner.Started.{active_at}
 use Rattle.std.specs.HashSet.{contains}
 use Rattle.mpicall.specs.declared.call.Call.{Call}
 use Rattle.mpicall.specs.declared.call.Call.TheVariants.{Isend, Irecv, Icoll}
@@ -93,8 +93,8 @@ pub record Stands (handed : Handed) (progress : Progress) (it : ListCode) : Type
   pub given : it.given ≤ it.count
   pub numbered : AreNumbered progress.active it
   pub apart : AreApart progress.active
-  pub own : (id : ℕ) → option_map (λ active. active.number) (get nat_eq it.active id) ≡ number_in progress.active (Own id)
-  pub started : (id : ℕ) → IsStarted progress.records id (get nat_eq it.active id)
+  pub own : (id : ℕ) → option_map (λ active. active.number) (active_at it.active id) ≡ number_in progress.active (Own id)
+  pub started : (id : ℕ) → IsStarted progress.records id (active_at it.active id)
   pub ids : HasIds handed.frees it.freed
   pub places : HasPlaces handed.frees progress.records it.freed
 
@@ -168,12 +168,12 @@ is_active_send None = false
 is_active_send (Some active) = active.is_send
 
 abbrev pub is_send_in : ListCode → ℕ → Bool
-is_send_in it id = is_active_send (get nat_eq it.active id)
+is_send_in it id = is_active_send (active_at it.active id)
 
 -- the map of active requests has the numbers of these
 abbrev pub Owns : Requests → ListCode → Type 0
 Owns active it =
-    (id : ℕ) → option_map (λ active. active.number) (get nat_eq it.active id) ≡ number_in active (Own id)
+    (id : ℕ) → option_map (λ active. active.number) (active_at it.active id) ≡ number_in active (Own id)
 
 -- the number that was found, if one was
 abbrev pub found_number : Option ℕ → List ℕ
@@ -187,7 +187,7 @@ pub record KeepsLines (old new : ListCode) : Type 0 where
   pub free : new.free ≡ old.free
   pub given : new.given ≡ old.given
   pub freed : new.freed ≡ old.freed
-  pub started : (records : List Written) (id : ℕ) → IsStarted records id (get nat_eq old.active id) → IsStarted records id (get nat_eq new.active id)
+  pub started : (records : List Written) (id : ℕ) → IsStarted records id (active_at old.active id) → IsStarted records id (active_at new.active id)
 
 -- the number of a request is listed, and the request active no longer
 pub record TakesOne (left : Requests) (id : ℕ) (old new : ListCode) : Type 0 where

@@ -2,7 +2,7 @@
 -- call; and what is kept after it.
 use Rattle.std.specs.Prelude.{◌≡◌, ℕ, ◌-◌, nat_eq, Bool, true, false, ◌&&◌, ◌||◌, not, Option, Some, None, is_some, is_none, option_map, option_and_then, option_to_list, if◌then◌else◌, Result, Ok, Err, List, [], ◌∷◌, ◌++◌, take}
 use Rattle.std.specs.List.{filter_map, list_all, list_any}
-use Rattle.std.specs.HashMap.{get}
+use Rattle.closing.specs.inner.Started.{active_at as started_at}
 use Rattle.mpicall.specs.Word.{or_else}
 use Rattle.mpicall.specs.declared.call.Call.{Call}
 use Rattle.mpicall.specs.declared.call.Call.TheVariants.{Irecv, Open}
@@ -168,7 +168,7 @@ sink_at standing sinks field = None
 abbrev pub active_at : Standing → ListCode → Field → Option Item
 active_at standing list (Natural request) =
     if kept.is_left_out (outcome_at standing.outcomes request) then None
-    else option_map (λ active. item.Request active.number) (get nat_eq list.active (id_in standing request))
+    else option_map (λ active. item.Request active.number) (started_at list.active (id_in standing request))
 active_at standing list field = None
 
 abbrev pub item_at : Standing → Sinks → ListCode → Field → Option Item

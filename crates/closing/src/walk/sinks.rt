@@ -367,6 +367,14 @@ impl Walk {
         }
     }
 
+    /// Whether a message is known, and no sink may take it, since there is none.
+    fn is_plain(&self, found: Option<Message>) -> bool
+        ensures known { result ≡ true → is_some (option_map message_view found) ≡ true }
+        ensures none { result ≡ true → self.now.sinks.all.items ≡ [] }
+    {
+        found.is_some() && self.sinks.are_none()
+    }
+
     /// A receive or probe that blocks.
     fn blocks_sink(&mut self, at: &At<'_>, awaited: &Awaited, leaves: Leaves) -> Result<bool, Stop>
         ensures same { self.new ≡ record self.old { list = self.new.list; sinks = self.new.sinks; pending = self.new.pending; left_out = self.new.left_out } }
@@ -374,7 +382,11 @@ impl Walk {
             TakesSunk spot.line at.now.came_back (blocks_sunk spot at.now.came_back leaves (awaited_view awaited.now) (message_said (awaited_view awaited.now) spot.got))
             (λ progress. message_pending (wants_in spot.size spot.number (awaited_view awaited.now) (message_said (awaited_view awaited.now) spot.got))) (λ progress. unknown) result self.old self.new }
     {
-        let Some(wants) = wants_of(at, awaited, message_of(awaited, at.got)) else {
+        let found = message_of(awaited, at.got);
+        if self.is_plain(found) {
+            return Ok(false);
+        }
+        let Some(wants) = wants_of(at, awaited, found) else {
             return Ok(false);
         };
         match self.fate(at, &wants) {
@@ -438,6 +450,9 @@ impl Walk {
             (λ progress. unknown) (λ progress. unknown) result self.old self.new }
     {
         let found = message_of(awaited, self.requests.message(lines, own));
+        if self.is_plain(found) {
+            return Ok(false);
+        }
         let Some(wants) = wants_of(at, awaited, found) else {
             return Ok(false);
         };

@@ -1,7 +1,7 @@
 -- One request more is found, or as many as a line may name.
 use Rattle.std.proofs.Common.{◌≡◌, ◌∙◌, ◌<◌, ◌≤◌, ◌+◌, ◌++◌, ap, arith, drop, get_or, length, map, option_map, subst, sym}
 use Rattle.std.specs.Prelude.{nat_eq}
-use Rattle.std.specs.HashMap.{get}
+use Rattle.closing.specs.inner.Started.{active_at}
 use Rattle.std.proofs.lemmas.List.{append-nil, drop_all, drop_more}
 use Rattle.mpicall.specs.declared.limits.TheConstants.{MOST_REQUESTS}
 use Rattle.closing.specs.Steps.{Own, numbers_of, without_all}
@@ -24,7 +24,7 @@ loop-id-preserved c =
       same = finds_both c.args.self.now c.loop-id.self c.find_request.new.self c.loop-id.invariant.same c.in_ok-find_request.ensures.same;
       few = omega (arith, c.in_ok-find_request.ensures.most, c.if-len-ge-MOST_REQUESTS.false, c.len.ensures, c.loop-id.self.numbers.ok.0);
       finds = λ left apart owns.
-          let now : Owns left c.loop-id.self = λ q. ap (λ it. option_map (λ (one : Active). one.number) (get nat_eq it q)) c.loop-id.invariant.same.active ∙ owns q in
+          let now : Owns left c.loop-id.self = λ q. ap (λ it. option_map (λ (one : Active). one.number) (active_at it q)) c.loop-id.invariant.same.active ∙ owns q in
           finds_more left (map Own c.args.ids.now) (get_or c.args.ids.now c.loop-id.id-index 0) (map Own (drop (c.loop-id.id-index + 1) c.args.ids.now))
           c.loop-id.self.numbers.items c.find_request.new.self.numbers.items
           (subst (λ rest. c.loop-id.self.numbers.items ++ numbers_of (without_all c.loop-id.self.numbers.items left) rest ≡ numbers_of left (map Own c.args.ids.now))

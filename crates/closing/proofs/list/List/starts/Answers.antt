@@ -18,7 +18,7 @@ returns c = λ handed progress line stands fits free.
     named_stands handed progress line c.args.self.now c.take_number-number.new.self c.add.new.self _ c.args.start
     (record { number = c.take_number-number.result; place = c.take_number-number.new.self.count; is_send = c.is_send.result }) c.args.id
     stands free c.take_number-number.ensures.same takes (adds may.0 may.1).0 (adds may.0 may.1).1
-    (record { records = refl; count = refl; free = refl; given = refl }) c.in_ok-insert.ensures.updates.0 refl c.is_send.ensures
+    (record { records = refl; count = refl; free = refl; given = refl }) c.in_ok-insert.ensures refl c.is_send.ensures
     c.in_ok-take_start.ensures.ids c.in_ok-take_start.ensures.places
 
 pub returns-in_err-add : goal.returns-in_err-add

@@ -45,5 +45,5 @@ returns c = λ handed progress line stands has.
     let puts = c.in_ok-waits_for_number.ensures small low few room in
     one_stands handed progress line c.args.self.now c.find_numbers.new.self c.waits_for_number.new.self
     (record c.waits_for_number.new.self { active = c.remove.new.self }) c.free_number.new.self c.args.wanted c.args.active (map Own c.args.ids.now)
-    stands has keeps numbers puts.0 puts.1 (record { records = refl; count = refl; free = refl; given = refl }) refl c.remove.ensures.updates.0
+    stands has keeps numbers puts.0 puts.1 (record { records = refl; count = refl; free = refl; given = refl }) refl c.remove.ensures.gone
     c.in_ok-free_number.ensures.same c.in_ok-free_number.ensures.frees

@@ -6,18 +6,29 @@ use Rattle.closing.specs.Reported.{message_of}
 use Rattle.closing.specs.inner.Sunk.{IsSunkBy, blocks_sunk, message_pending, outcome_by_fate, steps_left, wants_in}
 use Rattle.closing.specs.inner.Views.{awaited_view, message_view}
 use Rattle.closing.specs.declared.walk.sinks.Fate.{Fate}
-use Rattle.closing.proofs.SunkBlocks.{and_then_none, blocks_is, fate_ends, fate_pends, fate_said, goes_by, none_if, pends_alone, pends_sunk, small_at, wants_none, wants_some, wants_spot}
+use Rattle.closing.proofs.SunkBlocks.{and_then_none, blocks_is, blocks_plain, fate_ends, fate_pends, fate_said, goes_by, none_if, none_met, pends_alone, pends_sunk, small_at, wants_none, wants_some, wants_spot}
 use Rattle.closing.proofs.SunkWaits.{left_alone}
 use Rattle.closing.specs.Sinks.{is_met}
 use Rattle.closing.proofs.walk.Walk.blocks_sink.Goals as goal
+
+pub returns-then-is_plain-clause-takes : goal.returns-then-is_plain-clause-takes
+returns-then-is_plain-clause-takes c = λ spot is line handed progress stands kept fits.
+    let at = c.args.at.now in
+    let awaited = awaited_view c.args.awaited.now in
+    let message = message_of awaited spot.got in
+    let em : option_map message_view c.message_of-found.result ≡ message = c.message_of-found.ensures ∙ ap (message_of awaited) is.got in
+    left_alone spot.line at.came_back (blocks_sunk spot at.came_back c.args.leaves awaited message progress.records) (message_pending (wants_in spot.size spot.number awaited message)) unknown
+    handed progress c.args.self.now
+    (blocks_plain spot at.came_back c.args.leaves awaited message progress.records (sym (ap is_some em) ∙ c.is_plain.ensures.known c.if-is_plain.true)
+    (λ wanted. none_met progress.records c.args.self.now.sinks wanted kept.sinks (c.is_plain.ensures.none c.if-is_plain.true))) refl stands kept
 
 pub returns-in_default-clause-takes : goal.returns-in_default-clause-takes
 returns-in_default-clause-takes c = λ spot is line handed progress stands kept fits.
     let at = c.args.at.now in
     let awaited = awaited_view c.args.awaited.now in
     let message = message_of awaited spot.got in
-    let em : option_map message_view c.message_of.result ≡ message = c.message_of.ensures ∙ ap (message_of awaited) is.got in
-    let e = wants_spot spot at c.wants_of.result awaited spot.got (option_map message_view c.message_of.result) is em (c.wants_of.ensures (small_at spot at is)) in
+    let em : option_map message_view c.message_of-found.result ≡ message = c.message_of-found.ensures ∙ ap (message_of awaited) is.got in
+    let e = wants_spot spot at c.wants_of.result awaited spot.got (option_map message_view c.message_of-found.result) is em (c.wants_of.ensures (small_at spot at is)) in
     left_alone spot.line at.came_back (blocks_sunk spot at.came_back c.args.leaves awaited message progress.records) (message_pending (wants_in spot.size spot.number awaited message)) unknown
     handed progress c.args.self.now
     (and_then_none _ (wants_in spot.size spot.number awaited message)
@@ -28,10 +39,10 @@ returns-in-Plain-clause-takes c = λ spot is line handed progress stands kept fi
     let at = c.args.at.now in
     let awaited = awaited_view c.args.awaited.now in
     let message = message_of awaited spot.got in
-    let em : option_map message_view c.message_of.result ≡ message = c.message_of.ensures ∙ ap (message_of awaited) is.got in
+    let em : option_map message_view c.message_of-found.result ≡ message = c.message_of-found.ensures ∙ ap (message_of awaited) is.got in
     let wants = c.in-Some.wants in
     let are = wants_some (is_some message) wants (wants_in spot.size spot.number awaited message)
-    (wants_spot spot at (Some wants) awaited spot.got (option_map message_view c.message_of.result) is em (c.in-Some.ensures (small_at spot at is))) in
+    (wants_spot spot at (Some wants) awaited spot.got (option_map message_view c.message_of-found.result) is em (c.in-Some.ensures (small_at spot at is))) in
     let ef = fate_said progress.records c.args.self.now.sinks wants at.came_back at.is_past spot.is_past c.fate.result kept.sinks is.is_past c.fate.ensures in
     let left = steps_left c.args.leaves wants.wanted wants.is_known in
     let by : blocks_sunk spot at.came_back c.args.leaves awaited message progress.records ≡ outcome_by_fate c.fate.result [] left =
@@ -46,10 +57,10 @@ returns-in-Sinks-clause-takes c = λ spot is line handed progress stands kept fi
     let at = c.args.at.now in
     let awaited = awaited_view c.args.awaited.now in
     let message = message_of awaited spot.got in
-    let em : option_map message_view c.message_of.result ≡ message = c.message_of.ensures ∙ ap (message_of awaited) is.got in
+    let em : option_map message_view c.message_of-found.result ≡ message = c.message_of-found.ensures ∙ ap (message_of awaited) is.got in
     let wants = c.in-Some.wants in
     let are = wants_some (is_some message) wants (wants_in spot.size spot.number awaited message)
-    (wants_spot spot at (Some wants) awaited spot.got (option_map message_view c.message_of.result) is em (c.in-Some.ensures (small_at spot at is))) in
+    (wants_spot spot at (Some wants) awaited spot.got (option_map message_view c.message_of-found.result) is em (c.in-Some.ensures (small_at spot at is))) in
     let ef = fate_said progress.records c.args.self.now.sinks wants at.came_back at.is_past spot.is_past c.fate.result kept.sinks is.is_past c.fate.ensures in
     let left = steps_left c.args.leaves wants.wanted wants.is_known in
     let by : blocks_sunk spot at.came_back c.args.leaves awaited message progress.records ≡ outcome_by_fate c.fate.result [] left =
@@ -64,10 +75,10 @@ returns-in-Pends-clause-takes c = λ spot is line handed progress stands kept fi
     let at = c.args.at.now in
     let awaited = awaited_view c.args.awaited.now in
     let message = message_of awaited spot.got in
-    let em : option_map message_view c.message_of.result ≡ message = c.message_of.ensures ∙ ap (message_of awaited) is.got in
+    let em : option_map message_view c.message_of-found.result ≡ message = c.message_of-found.ensures ∙ ap (message_of awaited) is.got in
     let wants = c.in-Some.wants in
     let are = wants_some (is_some message) wants (wants_in spot.size spot.number awaited message)
-    (wants_spot spot at (Some wants) awaited spot.got (option_map message_view c.message_of.result) is em (c.in-Some.ensures (small_at spot at is))) in
+    (wants_spot spot at (Some wants) awaited spot.got (option_map message_view c.message_of-found.result) is em (c.in-Some.ensures (small_at spot at is))) in
     let ef = fate_said progress.records c.args.self.now.sinks wants at.came_back at.is_past spot.is_past c.fate.result kept.sinks is.is_past c.fate.ensures in
     let left = steps_left c.args.leaves wants.wanted wants.is_known in
     let by : blocks_sunk spot at.came_back c.args.leaves awaited message progress.records ≡ outcome_by_fate c.fate.result [] left =
@@ -85,10 +96,10 @@ returns-in-Ends-clause-takes c = λ spot is line handed progress stands kept fit
     let at = c.args.at.now in
     let awaited = awaited_view c.args.awaited.now in
     let message = message_of awaited spot.got in
-    let em : option_map message_view c.message_of.result ≡ message = c.message_of.ensures ∙ ap (message_of awaited) is.got in
+    let em : option_map message_view c.message_of-found.result ≡ message = c.message_of-found.ensures ∙ ap (message_of awaited) is.got in
     let wants = c.in-Some.wants in
     let are = wants_some (is_some message) wants (wants_in spot.size spot.number awaited message)
-    (wants_spot spot at (Some wants) awaited spot.got (option_map message_view c.message_of.result) is em (c.in-Some.ensures (small_at spot at is))) in
+    (wants_spot spot at (Some wants) awaited spot.got (option_map message_view c.message_of-found.result) is em (c.in-Some.ensures (small_at spot at is))) in
     let ef = fate_said progress.records c.args.self.now.sinks wants at.came_back at.is_past spot.is_past c.fate.result kept.sinks is.is_past c.fate.ensures in
     let left = steps_left c.args.leaves wants.wanted wants.is_known in
     let by : blocks_sunk spot at.came_back c.args.leaves awaited message progress.records ≡ outcome_by_fate c.fate.result [] left =

@@ -8,9 +8,22 @@ use Rattle.closing.specs.Sinks.{GoesOn}
 use Rattle.closing.specs.inner.Outcomes.{message_by, outcome_at}
 use Rattle.closing.specs.inner.Sunk.{sink_step, starts_receive_sunk, wants_in}
 use Rattle.closing.specs.inner.Views.{awaited_view, message_view}
-use Rattle.closing.proofs.SunkBlocks.{and_then_none, goes_by, if_not, if_so, none_if, sink_said, small_at, starts_is, wants_none, wants_some, wants_spot}
+use Rattle.closing.proofs.SunkBlocks.{and_then_none, goes_by, if_not, if_so, none_if, none_met, sink_said, small_at, starts_is, starts_plain, wants_none, wants_some, wants_spot}
 use Rattle.closing.proofs.SunkWaits.{left_alone}
 use Rattle.closing.proofs.walk.Walk.starts_receive_sink.Goals as goal
+
+pub returns-then-is_plain-clause-takes : goal.returns-then-is_plain-clause-takes
+returns-then-is_plain-clause-takes c = λ spot is line same tells handed progress stands kept fits.
+    let at = c.args.at.now in
+    let awaited = awaited_view c.args.awaited.now in
+    let done = done_of spot.lines c.args.own in
+    let message = message_of awaited done in
+    let ed : option_map message_view c.message.result ≡ done =
+    c.message.ensures ∙ ap (λ (lines : List Line). message_by lines (outcome_at c.args.self.now.requests.outcomes c.args.own)) (sym same) ∙ tells.done c.args.own in
+    let em : option_map message_view c.message_of-found.result ≡ message = c.message_of-found.ensures ∙ ap (message_of awaited) ed in
+    left_alone spot.line at.came_back (starts_receive_sunk spot c.args.own awaited message progress.records) unknown unknown handed progress c.args.self.now
+    (starts_plain spot c.args.own awaited message progress.records (sym (ap is_some em) ∙ c.is_plain.ensures.known c.if-is_plain.true)
+    (λ wanted. none_met progress.records c.args.self.now.sinks wanted kept.sinks (c.is_plain.ensures.none c.if-is_plain.true))) refl stands kept
 
 pub returns-in_default-clause-takes : goal.returns-in_default-clause-takes
 returns-in_default-clause-takes c = λ spot is line same tells handed progress stands kept fits.
