@@ -151,7 +151,7 @@ module _ (run : Run) (choice : Choice) (journal : Journal) (table : Table) (walk
 pub record IsLeft (run : Run) (rank : ℕ) (list : ListCode) (walk : Walk) : Type 0 where
   pub rank_is : walk.rank ≡ rank
   pub stands : Stands (first_of run rank) (progress_first run rank) list
-  pub items : walk.list.records.items ≡ list.records.items ++ Open ∷ []
+  pub items : walk.list.records ≡ list.records ++ Open ∷ []
   pub freed : walk.list.freed ≡ list.freed
   pub handed : walk.handed ≡ 0
   pub before : walk.before ≡ 0
@@ -246,7 +246,7 @@ module _ (run : Run) (choice : Choice) (table : Table) (empty put : Walk) (is_em
 
   -- without one
   pub new_left : (walk : Walk) → walk ≡ record put { list = walk.list; is_over = true; left = Some (record { line = put.line; why = NoJournal }) }
-      → walk.list.records.items ≡ put.list.records.items ++ Open ∷ [] → walk.list.freed ≡ put.list.freed → journal_at run empty.rank ≡ None → IsWalk run choice table walk
+      → walk.list.records ≡ put.list.records ++ Open ∷ [] → walk.list.freed ≡ put.list.freed → journal_at run empty.rank ≡ None → IsWalk run choice table walk
   new_left walk same items freed there =
       let rank : walk.rank ≡ empty.rank = ap (λ (it : Walk). it.rank) same ∙ ap (λ (it : Walk). it.rank) listed in
       let line : put.line ≡ 0 = ap (λ (it : Walk). it.line) listed ∙ is_empty.line in

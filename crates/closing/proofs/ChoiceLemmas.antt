@@ -26,12 +26,12 @@ use Rattle.closing.proofs.WaitLemmas.{small_held, small_arguments, small_take}
 
 -- what a list has that says its records are these, whatever its requests are
 pub record HasLines (handed : Handed) (progress : Progress) (it : ListCode) : Type 0 where
-  pub records : calls_in progress.records ≡ handed.calls ++ it.records.items
+  pub records : calls_in progress.records ≡ handed.calls ++ it.records
   pub count : it.count ≡ length progress.records
   pub short : it.count < MOST_RECORDS
   pub places : HasPlaces handed.frees progress.records it.freed
 
-pub lines_kept : (handed : Handed) (progress : Progress) (old mid : ListCode) → Stands handed progress old → mid.records.items ≡ old.records.items → mid.count ≡ old.count → mid.freed ≡ old.freed → HasLines handed progress mid
+pub lines_kept : (handed : Handed) (progress : Progress) (old mid : ListCode) → Stands handed progress old → mid.records ≡ old.records → mid.count ≡ old.count → mid.freed ≡ old.freed → HasLines handed progress mid
 lines_kept handed progress old mid stands records count freed = record {
   records = stands.records ∙ ap (λ calls. handed.calls ++ calls) (sym records);
   count = count ∙ stands.count;
@@ -53,9 +53,9 @@ module _ (handed : Handed) (progress : Progress) (line : ℕ) (mid new : ListCod
   many_plain : length (plain line calls) ≡ length calls
   many_plain = plain_length line calls
 
-  pub waited_records : Puts mid new calls → calls_in (progress.records ++ plain line calls) ≡ handed.calls ++ new.records.items
+  pub waited_records : Puts mid new calls → calls_in (progress.records ++ plain line calls) ≡ handed.calls ++ new.records
   waited_records puts =
-      waited_calls ∙ ap (λ it. it ++ calls) has.records ∙ append_assoc handed.calls mid.records.items calls ∙ ap (λ it. handed.calls ++ it) (sym puts.records)
+      waited_calls ∙ ap (λ it. it ++ calls) has.records ∙ append_assoc handed.calls mid.records calls ∙ ap (λ it. handed.calls ++ it) (sym puts.records)
 
   pub waited_count : Puts mid new calls → new.count ≡ length (progress.records ++ plain line calls)
   waited_count puts = omega (arith, many_plain, puts.count, has.count, length-append progress.records (plain line calls))
@@ -70,7 +70,7 @@ module _ (handed : Handed) (progress : Progress) (line : ℕ) (mid new : ListCod
             ∙ take_past (MOST_RECORDS - 1) (calls_in progress.records) calls (omega (arith, so_far, has.short))
             ∙ ap (λ n. calls_in progress.records ++ take (MOST_RECORDS - 1 - n) calls) so_far
             ∙ ap (λ it. it ++ take (MOST_RECORDS - 1 - mid.count) calls) has.records
-            ∙ append_assoc handed.calls mid.records.items (take (MOST_RECORDS - 1 - mid.count) calls)
+            ∙ append_assoc handed.calls mid.records (take (MOST_RECORDS - 1 - mid.count) calls)
             ∙ ap (λ it. handed.calls ++ it) (sym cuts.records);
         ends_at = line_past progress.records (plain line calls) line (MOST_RECORDS - 1) (plain_line line calls) (omega (arith, has.short, has.count)) (omega (arith, many_plain, cuts.long, has.count));
         places =
@@ -92,7 +92,7 @@ all_cut A B stop handed progress line old mid new ids stands keeps takes adds =
     (stop_comes A B stop handed (wait_with progress line (numbers_of progress.active ids) (waits_for (length mid.numbers.items) mid.numbers.items)) line mid new new
     (waits_for (length mid.numbers.items) mid.numbers.items)
     (waited_cut handed progress line mid new (waits_for (length mid.numbers.items) mid.numbers.items) (without_all (numbers_of progress.active ids) progress.active)
-    (lines_kept handed progress old mid stands (ap (λ records. records.items) keeps.records) keeps.count keeps.freed)) adds)
+    (lines_kept handed progress old mid stands keeps.records keeps.count keeps.freed)) adds)
 
 pub all_stand : (handed : Handed) (progress : Progress) (line : ℕ) (old mid waited new : ListCode) (ids : List Id)
     → Stands handed progress old → KeepsLines old mid → TakesNumbers progress.active ids mid
@@ -100,7 +100,7 @@ pub all_stand : (handed : Handed) (progress : Progress) (line : ℕ) (old mid wa
     → FreesOnly waited new → ((active : Requests) → AreNumbered active waited → AreHeld active waited.numbers.items → AreNumbered (without_all waited.numbers.items active) new)
     → Stands handed (wait_all progress line (numbers_of progress.active ids)) new
 all_stand handed progress line old mid waited new ids stands keeps takes puts short same frees =
-    let lines : HasLines handed progress mid = lines_kept handed progress old mid stands (ap (λ records. records.items) keeps.records) keeps.count keeps.freed in
+    let lines : HasLines handed progress mid = lines_kept handed progress old mid stands keeps.records keeps.count keeps.freed in
     let numbers : waited.numbers.items ≡ numbers_of progress.active ids = ap (λ it. it.items) puts.numbers ∙ takes.numbers in
     let numbered : AreNumbered progress.active waited = same_numbered progress.active old waited (puts.free ∙ keeps.free) (puts.given ∙ keeps.given) stands.numbered in
     let maps : new.active ≡ mid.active = same.active ∙ puts.active in
@@ -108,7 +108,7 @@ all_stand handed progress line old mid waited new ids stands keeps takes puts sh
     (record {
       records =
           waited_records handed progress line mid waited (waits_for (length mid.numbers.items) mid.numbers.items) (without_all (numbers_of progress.active ids) progress.active) lines puts
-          ∙ ap (λ records. handed.calls ++ records.items) (sym same.records);
+          ∙ ap (λ records. handed.calls ++ records) (sym same.records);
       count = same.count ∙ waited_count handed progress line mid waited (waits_for (length mid.numbers.items) mid.numbers.items) (without_all (numbers_of progress.active ids) progress.active) lines puts;
       short = omega (arith, same.count, short);
       given = omega (arith, same.given, same.count, puts.given, puts.count, keeps.given, keeps.count, stands.given);
@@ -221,7 +221,7 @@ one_cut A B stop handed progress line old mid new wanted number ids stands found
     (stop_comes A B stop handed (wait_with progress line (number ∷ []) (wait_for_one number mid.numbers.items ∷ [])) line mid new new
     (wait_for_one number mid.numbers.items ∷ [])
     (waited_cut handed progress line mid new (wait_for_one number mid.numbers.items ∷ []) (without number progress.active)
-    (lines_kept handed progress old mid stands (ap (λ records. records.items) keeps.records) keeps.count keeps.freed)) adds))
+    (lines_kept handed progress old mid stands keeps.records keeps.count keeps.freed)) adds))
 
 pub one_stands : (handed : Handed) (progress : Progress) (line : ℕ) (old mid waited taken new : ListCode) (wanted : ℕ) (active : Active) (ids : List Id)
     → Stands handed progress old → active_at old.active wanted ≡ Some active → FindsOnly old mid → mid.numbers.items ≡ take MOST_REQUESTS (numbers_of progress.active ids)
@@ -231,7 +231,7 @@ pub one_stands : (handed : Handed) (progress : Progress) (line : ℕ) (old mid w
     → Stands handed (wait_one progress line (number_in progress.active (Own wanted)) (take MOST_REQUESTS (numbers_of progress.active ids))) new
 one_stands handed progress line old mid waited taken new wanted active ids stands has keeps numbers puts short same same_freed gone frees freed =
     let found : number_in progress.active (Own wanted) ≡ Some active.number = sym (stands.own wanted) ∙ ap (option_map (λ (one : Active). one.number)) has in
-    let lines : HasLines handed progress mid = lines_kept handed progress old mid stands (ap (λ records. records.items) keeps.records) keeps.count keeps.freed in
+    let lines : HasLines handed progress mid = lines_kept handed progress old mid stands keeps.records keeps.count keeps.freed in
     let map_was : waited.active ≡ old.active = puts.active ∙ keeps.active in
     let went : (q : ℕ) → active_at taken.active q ≡ cond (nat_eq wanted q) None (active_at old.active q) = λ q. gone q ∙ ap (λ it. cond (nat_eq wanted q) None (active_at it q)) map_was in
     let numbered : AreNumbered progress.active taken =
@@ -241,7 +241,7 @@ one_stands handed progress line old mid waited taken new wanted active ids stand
     (record {
       records =
           waited_records handed progress line mid waited (wait_for_one active.number mid.numbers.items ∷ []) (without active.number progress.active) lines puts
-          ∙ ap (λ records. handed.calls ++ records.items) (sym (frees.records ∙ same.records));
+          ∙ ap (λ records. handed.calls ++ records) (sym (frees.records ∙ same.records));
       count = frees.count ∙ same.count ∙ waited_count handed progress line mid waited (wait_for_one active.number mid.numbers.items ∷ []) (without active.number progress.active) lines puts;
       short = omega (arith, frees.count, same.count, short);
       given = omega (arith, frees.given, frees.count, same.given, same.count, puts.given, puts.count, keeps.given, keeps.count, stands.given);

@@ -143,7 +143,7 @@ calls_so_far it handed items records more before line e few calls lines =
 -- ---- At the end ----
 
 pub record IsEnded (it : Listed) (handed : Handed) (list : ListCode) (end : Call) (before line : ℕ) (why : Option Why) : Type 0 where
-  pub has : HasCalls it handed.calls (list.records.items ++ end ∷ []) [] before line
+  pub has : HasCalls it handed.calls (list.records ++ end ∷ []) [] before line
   pub line_is : it.line ≡ line
   pub why_is : it.why ≡ why
   pub places : HasPlaces handed.frees it.records list.freed
@@ -159,7 +159,7 @@ ended_line it before line place e lines from (inr past) = line_of_end it place l
 
 -- a list that ends here has these calls with its end
 pub calls_ended : (q : Progress) (handed : Handed) (list : ListCode) (end : Call) (before line : ℕ) (why : Option Why) → length q.records < most_records
-    → calls_in q.records ≡ handed.calls ++ list.records.items → HasPlaces handed.frees q.records list.freed → AreOfLine line before q.records
+    → calls_in q.records ≡ handed.calls ++ list.records → HasPlaces handed.frees q.records list.freed → AreOfLine line before q.records
     → IsEnded (cut (ended q end line why)) handed list end before line why
 calls_ended q handed list end before line why few calls places lines =
     let whole = ended q end line why in
@@ -167,7 +167,7 @@ calls_ended q handed list end before line why few calls places lines =
     subst (λ (it : Listed). IsEnded it handed list end before line why) (sym same)
     (record {
       has = record {
-        calls = ap (λ xs. xs ++ end ∷ []) calls ∙ with_end handed.calls list.records.items end;
+        calls = ap (λ xs. xs ++ end ∷ []) calls ∙ with_end handed.calls list.records end;
         lines = λ place from within. ended_line whole before line place refl lines from (cases_lt place (length q.records));
       };
       line_is = refl;
@@ -195,7 +195,7 @@ calls_cut it q more handed list before line e is lines =
     subst (λ (xs : List Written). AreOfLine line before xs) (sym made) (taken_lines it q more before line e is.long lines) in
     record {
       has = record {
-        calls = at.calls ∙ ap (λ xs. handed.calls ++ xs) (sym (append-nil (list.records.items ++ Open ∷ [])));
+        calls = at.calls ∙ ap (λ xs. handed.calls ++ xs) (sym (append-nil (list.records ++ Open ∷ [])));
         lines = λ place from within. ended_line (cut it) before line place at.line_is there from (cases_lt place (length (cut it).records));
       };
       line_is = at.line_is;

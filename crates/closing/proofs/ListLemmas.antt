@@ -110,7 +110,7 @@ module _ (handed : Handed) (progress : Progress) (line : ℕ) (old new : ListCod
   comes_puts stands same none puts short =
       let many : length more ≡ length calls = sym (length-map more (λ it. it.call)) ∙ ap length same in
       record {
-        records = calls_more stands same ∙ ap (λ it. it ++ calls) stands.records ∙ append_assoc handed.calls old.records.items calls ∙ ap (λ it. handed.calls ++ it) (sym puts.records);
+        records = calls_more stands same ∙ ap (λ it. it ++ calls) stands.records ∙ append_assoc handed.calls old.records calls ∙ ap (λ it. handed.calls ++ it) (sym puts.records);
         count = omega (arith, many, puts.count, stands.count, length-append progress.records more);
         short = short;
         given = omega (arith, puts.given, puts.count, stands.given);
@@ -133,7 +133,7 @@ module _ (handed : Handed) (progress : Progress) (line : ℕ) (old new : ListCod
             ∙ take_past (MOST_RECORDS - 1) (calls_in progress.records) calls (omega (arith, so_far, stands.short))
             ∙ ap (λ n. calls_in progress.records ++ take (MOST_RECORDS - 1 - n) calls) so_far
             ∙ ap (λ it. it ++ take (MOST_RECORDS - 1 - old.count) calls) stands.records
-            ∙ append_assoc handed.calls old.records.items (take (MOST_RECORDS - 1 - old.count) calls)
+            ∙ append_assoc handed.calls old.records (take (MOST_RECORDS - 1 - old.count) calls)
             ∙ ap (λ it. handed.calls ++ it) (sym cuts.records);
         ends_at = line_past progress.records more line (MOST_RECORDS - 1) all (omega (arith, stands.short, stands.count)) (omega (arith, many, cuts.long, stands.count));
         places =
@@ -151,7 +151,7 @@ no_room it call full short =
     let none : MOST_RECORDS - 1 - it.count ≡ 0 = omega arith in
     record {
       long = omega arith;
-      records = sym (append-nil it.records.items) ∙ ap (λ n. it.records.items ++ take n (call ∷ [])) (sym none);
+      records = sym (append-nil it.records) ∙ ap (λ n. it.records ++ take n (call ∷ [])) (sym none);
       freed = refl;
     }
 
@@ -176,7 +176,7 @@ sends_same (code.Collective comm kind) number = refl
 
 -- the records and the numbers of requests after such a line, not the map of active ones
 pub record PutsStart (mid new : ListCode) (call : Call) : Type 0 where
-  pub records : new.records.items ≡ mid.records.items ++ call ∷ []
+  pub records : new.records ≡ mid.records ++ call ∷ []
   pub count : new.count ≡ mid.count + 1
   pub free : new.free ≡ mid.free
   pub given : new.given ≡ mid.given
@@ -198,7 +198,7 @@ start_stands handed progress line old mid new it number id stands keeps takes pu
   records =
       map-append (λ one. one.call) progress.records (begun line id it number ∷ [])
       ∙ ap (λ calls. calls ++ start_call it number ∷ []) stands.records
-      ∙ append_assoc handed.calls old.records.items (start_call it number ∷ [])
+      ∙ append_assoc handed.calls old.records (start_call it number ∷ [])
       ∙ ap (λ calls. handed.calls ++ (calls ++ start_call it number ∷ [])) (sym keeps.records)
       ∙ ap (λ calls. handed.calls ++ calls) (sym puts.records);
   count = omega (arith, puts.count, keeps.count, stands.count, length-append progress.records (begun line id it number ∷ []));
@@ -223,7 +223,7 @@ start_cut handed progress line old mid new it number id stands keeps cuts =
           ∙ take_past (MOST_RECORDS - 1) (calls_in progress.records) (start_call it number ∷ []) (omega (arith, so_far, keeps.count, stands.short))
           ∙ ap (λ n. calls_in progress.records ++ take (MOST_RECORDS - 1 - n) (start_call it number ∷ [])) so_far
           ∙ ap (λ calls. calls ++ take (MOST_RECORDS - 1 - mid.count) (start_call it number ∷ [])) (stands.records ∙ ap (λ calls. handed.calls ++ calls) (sym keeps.records))
-          ∙ append_assoc handed.calls mid.records.items (take (MOST_RECORDS - 1 - mid.count) (start_call it number ∷ []))
+          ∙ append_assoc handed.calls mid.records (take (MOST_RECORDS - 1 - mid.count) (start_call it number ∷ []))
           ∙ ap (λ calls. handed.calls ++ calls) (sym cuts.records);
       ends_at = line_past progress.records (begun line id it number ∷ []) line (MOST_RECORDS - 1) (refl, tt) (omega (arith, stands.short, stands.count)) (omega (arith, cuts.long, keeps.count, stands.count));
       places =
@@ -304,7 +304,7 @@ named_stands handed progress line old mid before new it active id stands free ke
     let others : before.active ≡ old.active = puts.active ∙ keeps.active in
     let freed : before.freed ≡ old.freed = puts.freed ∙ keeps.freed in
     let put : PutsStart mid new (start_call it active.number) = record {
-      records = ap (λ records. records.items) same.records ∙ puts.records;
+      records = same.records ∙ puts.records;
       count = same.count ∙ puts.count;
       free = same.free ∙ puts.free;
       given = same.given ∙ puts.given;
@@ -342,10 +342,10 @@ named_stands handed progress line old mid before new it active id stands free ke
 
 -- ---- A new list, and records that are handed on ----
 
-pub handed_on : (handed : Handed) (progress : Progress) (old new : ListCode) → Stands handed progress old → new.records.items ≡ [] → new.count ≡ old.count → new.active ≡ old.active → new.free ≡ old.free → new.given ≡ old.given → new.freed ≡ old.freed
-    → Stands (record handed { calls = handed.calls ++ old.records.items }) progress new
+pub handed_on : (handed : Handed) (progress : Progress) (old new : ListCode) → Stands handed progress old → new.records ≡ [] → new.count ≡ old.count → new.active ≡ old.active → new.free ≡ old.free → new.given ≡ old.given → new.freed ≡ old.freed
+    → Stands (record handed { calls = handed.calls ++ old.records }) progress new
 handed_on handed progress old new stands empty count active free given freed = record {
-  records = stands.records ∙ sym (append-nil (handed.calls ++ old.records.items)) ∙ ap (λ calls. (handed.calls ++ old.records.items) ++ calls) (sym empty);
+  records = stands.records ∙ sym (append-nil (handed.calls ++ old.records)) ∙ ap (λ calls. (handed.calls ++ old.records) ++ calls) (sym empty);
   count = count ∙ stands.count;
   short = omega (arith, count, stands.short);
   given = omega (arith, count, given, stands.given);
@@ -362,10 +362,10 @@ unfolding IsHeap
 heap_none = λ p k d low from to lt. absurd (omega arith)
 
 pub new_stands : (late : List Id) (handed : Handed) (freed : Freed) (it : ListCode) → handed.calls ≡ [] → HasIds handed.frees freed → ((place : ℕ) → has_place freed place ≡ false) → it.freed ≡ freed
-    → it.records.items ≡ [] → it.count ≡ 0 → ((id : ℕ) → active_at it.active id ≡ None) → heap_items it.free ≡ [] → it.given ≡ 0 → Stands handed (record { records = []; active = []; late = late }) it
+    → it.records ≡ [] → it.count ≡ 0 → ((id : ℕ) → active_at it.active id ≡ None) → heap_items it.free ≡ [] → it.given ≡ 0 → Stands handed (record { records = []; active = []; late = late }) it
 new_stands late handed freed it none ids places same empty count active free given =
     record {
-      records = sym (ap (λ (xs : List Call). xs ++ it.records.items) none ∙ empty);
+      records = sym (ap (λ (xs : List Call). xs ++ it.records) none ∙ empty);
       count = count;
       short = omega (arith, count);
       given = omega (arith, given);

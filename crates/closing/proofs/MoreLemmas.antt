@@ -16,11 +16,11 @@ use Rattle.closing.proofs.GrownLemmas.{Grown, grown_all}
 
 module _ (handed : Handed) (p : Progress) (old new : ListCode) (before : Stands handed p old) where
   abbrev IsMore : Type 0
-  IsMore = length old.records.items ≤ length new.records.items
+  IsMore = length old.records ≤ length new.records
 
   -- as many as were handed on and weren't
-  count_of : (q : Progress) (it : ListCode) → Stands handed q it → length q.records ≡ length handed.calls + length it.records.items
-  count_of q it stands = sym (length-map q.records (λ one. one.call)) ∙ ap length stands.records ∙ length-append handed.calls it.records.items
+  count_of : (q : Progress) (it : ListCode) → Stands handed q it → length q.records ≡ length handed.calls + length it.records
+  count_of q it stands = sym (length-map q.records (λ one. one.call)) ∙ ap length stands.records ∙ length-append handed.calls it.records
 
   stands_more : (q : Progress) → Grown p q → Stands handed q new → IsMore
   stands_more q grown stands =
@@ -30,7 +30,7 @@ module _ (handed : Handed) (p : Progress) (old new : ListCode) (before : Stands 
   cut_more : (q : Progress) (line : ℕ) → IsCut handed q line new → IsMore
   cut_more q line cut =
       let long : MOST_RECORDS - 1 ≤ length (calls_in q.records) = omega (arith, cut.long, length-map q.records (λ one. one.call)) in
-      let count : length (take (MOST_RECORDS - 1) (calls_in q.records)) ≡ length handed.calls + length new.records.items = ap length cut.records ∙ length-append handed.calls new.records.items in
+      let count : length (take (MOST_RECORDS - 1) (calls_in q.records)) ≡ length handed.calls + length new.records = ap length cut.records ∙ length-append handed.calls new.records in
       let most : length (take (MOST_RECORDS - 1) (calls_in q.records)) ≡ MOST_RECORDS - 1 = length-take-le (MOST_RECORDS - 1) (calls_in q.records) long in
       omega (arith, count, most, count_of p old before, before.count, before.short)
 

@@ -52,7 +52,7 @@ module _ (run : Run) (choice : Choice) (journal : Journal) (kept : Communicators
 
   -- before the entry
   module _ (word : CallWord) (call : word_at journal.lines old.next ≡ Some (CallLine word)) (before line : ℕ) (reports : Reports)
-      (before_is : before ≡ old.handed + length old.list.records.items) (line_is : line ≡ old.next + 2)
+      (before_is : before ≡ old.handed + length old.list.records) (line_is : line ≡ old.next + 2)
       (are : AreReports journal.lines (old.next + 1) (reports_in (drop (old.next + 1) journal.lines)) reports) where
     abbrev begun : Walk
     begun = record old { before = before; line = line; next = reports.end }
@@ -120,7 +120,7 @@ module _ (run : Run) (choice : Choice) (journal : Journal) (kept : Communicators
 
       -- it ends with the rank's calls
       pub step_ends : (new : Walk) → result ≡ Ok true → new ≡ record one { list = new.list; is_over = true }
-          → new.list.records.items ≡ one.list.records.items ++ Finalize ∷ [] → new.list.freed ≡ one.list.freed → IsWalk run choice now new × Grows kept.keys now
+          → new.list.records ≡ one.list.records ++ Finalize ∷ [] → new.list.freed ≡ one.list.freed → IsWalk run choice now new × Grows kept.keys now
       step_ends new e ended items freed = (
         final_walk run choice journal kept.keys old so_far there word call now one new (list_as (Ok true) e) (λ steps end why is. entered.done steps end why e is)
             (ap (λ (it : Walk). it.rank) same) (record {
@@ -142,7 +142,7 @@ module _ (run : Run) (choice : Choice) (journal : Journal) (kept : Communicators
 
       -- it is left
       pub step_leaves : (new : Walk) (why : Why) → result ≡ Err (Left why) → new ≡ record one { list = new.list; is_over = true; left = Some (record { line = one.line; why = why }) }
-          → new.list.records.items ≡ one.list.records.items ++ Open ∷ [] → new.list.freed ≡ one.list.freed → IsWalk run choice now new × Grows kept.keys now
+          → new.list.records ≡ one.list.records ++ Open ∷ [] → new.list.freed ≡ one.list.freed → IsWalk run choice now new × Grows kept.keys now
       step_leaves new why e ended items freed =
           let at : one.line ≡ old.next + 2 = ap (λ (it : Walk). it.line) same ∙ line_is in (
             broken_walk run choice journal kept.keys old so_far there word call now one why new (list_as (Err (Left why)) e) (entered.stopped why e)
@@ -164,15 +164,15 @@ module _ (run : Run) (choice : Choice) (journal : Journal) (kept : Communicators
           )
 
       -- no record is taken away
-      pub step_more : (said : Result Bool Stop) → result ≡ said → (said ≡ Err Memory → ⊥) → length old.list.records.items ≤ length one.list.records.items
+      pub step_more : (said : Result Bool Stop) → result ≡ said → (said ≡ Err Memory → ⊥) → length old.list.records ≤ length one.list.records
       step_more said e some =
           entered_more so_far.handed so_far.progress old.list one.list so_far.stands said (outcome_in run choice so_far.progress.records placed) placed.line some (list_as said e)
 
   -- ---- No entry is left ----
 
   pub step_opens : (new : Walk) → ((word : CallWord) → word_at journal.lines old.next ≡ Some (CallLine word) → ⊥)
-      → new.rank ≡ old.rank → new.handed ≡ old.handed → new.before ≡ old.handed + length old.list.records.items → new.line ≡ 0 → new.left ≡ old.left → new.is_over ≡ true
-      → new.list.records.items ≡ old.list.records.items ++ Open ∷ [] → new.list.freed ≡ old.list.freed → SameSinks old new → IsWalk run choice kept.keys new
+      → new.rank ≡ old.rank → new.handed ≡ old.handed → new.before ≡ old.handed + length old.list.records → new.line ≡ 0 → new.left ≡ old.left → new.is_over ≡ true
+      → new.list.records ≡ old.list.records ++ Open ∷ [] → new.list.freed ≡ old.list.freed → SameSinks old new → IsWalk run choice kept.keys new
   step_opens new none rank handed before line left over items freed same =
       opened_walk run choice journal kept.keys old so_far there new none (record {
         rank = rank;

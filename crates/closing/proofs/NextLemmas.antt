@@ -63,9 +63,9 @@ pub record SameSinks (old new : Walk) : Type 0 where
 pub record HasEnded (old : Walk) (line : ℕ) (list : ListCode) (end : Call) (why : Option Why) (new : Walk) : Type 0 where
   pub rank : new.rank ≡ old.rank
   pub handed : new.handed ≡ old.handed
-  pub before : new.before ≡ old.handed + length old.list.records.items
+  pub before : new.before ≡ old.handed + length old.list.records
   pub line_is : new.line ≡ line
-  pub items_are : new.list.records.items ≡ list.records.items ++ end ∷ []
+  pub items_are : new.list.records ≡ list.records ++ end ∷ []
   pub freed : new.list.freed ≡ list.freed
   pub left : new.left ≡ left_as line why
   pub over : new.is_over ≡ true
@@ -80,7 +80,7 @@ pub record HasNext (lines : List Line) (old new : Walk) : Type 0 where
   pub next : new.next ≡ place_after lines old.next
   pub handed : new.handed ≡ old.handed
   pub line_is : new.line ≡ old.next + 2
-  pub before_is : new.before ≡ old.handed + length old.list.records.items
+  pub before_is : new.before ≡ old.handed + length old.list.records
   pub left : new.left ≡ old.left
   pub last : new.last ≡ old.last
   pub outcomes : new.requests.outcomes ≡ old.requests.outcomes
@@ -88,17 +88,17 @@ pub record HasNext (lines : List Line) (old new : Walk) : Type 0 where
 
 module _ (run : Run) (choice : Choice) (journal : Journal) (table : Table) (old : Walk) (so_far : IsSoFar run choice journal table old) (there : journal_at run old.rank ≡ Some journal) where
   -- as many records are made as were handed on and weren't
-  pub count_is : length so_far.progress.records ≡ old.handed + length old.list.records.items
+  pub count_is : length so_far.progress.records ≡ old.handed + length old.list.records
   count_is =
-      let all : length so_far.progress.records ≡ length so_far.handed.calls + length old.list.records.items =
-      sym (length-map so_far.progress.records (λ it. it.call)) ∙ ap length so_far.stands.records ∙ length-append so_far.handed.calls old.list.records.items in
+      let all : length so_far.progress.records ≡ length so_far.handed.calls + length old.list.records =
+      sym (length-map so_far.progress.records (λ it. it.call)) ∙ ap length so_far.stands.records ∙ length-append so_far.handed.calls old.list.records in
       omega (arith, all, so_far.count)
 
-  pub count_small : old.handed + length old.list.records.items < most_records
+  pub count_small : old.handed + length old.list.records < most_records
   count_small = omega (arith, count_is, so_far.stands.count, so_far.stands.short)
 
   ended_walk : (now : Table) (line : ℕ) (list : ListCode) (end : Call) (why : Option Why) (new : Walk) → HasEnded old line list end why new
-      → IsEnded (cut (whole_list run choice old.rank)) so_far.handed list end (old.handed + length old.list.records.items) line why → IsKnown run choice new → IsWalk run choice now new
+      → IsEnded (cut (whole_list run choice old.rank)) so_far.handed list end (old.handed + length old.list.records) line why → IsKnown run choice new → IsWalk run choice now new
   ended_walk now line list end why new is ended known =
       let here : IsEnded (cut (whole_list run choice old.rank)) so_far.handed list end new.before new.line why = rw (is.before, is.line_is) ended in
       let left : new.left ≡ left_as new.line why = is.left ∙ ap (λ n. left_as n why) (sym is.line_is) in
@@ -135,16 +135,16 @@ module _ (run : Run) (choice : Choice) (journal : Journal) (table : Table) (old 
       no_word (Some (CallLine word)) at = absurd (none word at)
       no_word (Some (Report word)) at = absurd (no_report_there journal.lines old.next word so_far.at_call at)
 
-      ended : IsEnded (cut (whole_list run choice old.rank)) so_far.handed old.list Open (old.handed + length old.list.records.items) 0 None
+      ended : IsEnded (cut (whole_list run choice old.rank)) so_far.handed old.list Open (old.handed + length old.list.records) 0 None
       ended =
-          ended_open run choice journal table old (old.handed + length old.list.records.items) so_far
+          ended_open run choice journal table old (old.handed + length old.list.records) so_far
           (none_left journal.lines old.next (no_word (word_at journal.lines old.next) refl)) (omega (arith, count_is))
 
   -- ---- The next entry ----
 
   module _ (word : CallWord) (call : word_at journal.lines old.next ≡ Some (CallLine word)) where
     abbrev before : ℕ
-    before = old.handed + length old.list.records.items
+    before = old.handed + length old.list.records
 
     abbrev placed : Placed
     placed = placed_here old.rank journal old.next word

@@ -70,7 +70,7 @@ some_line (Some one) line e = cc
 
 -- what the list has of one that is cut within a line's records, before its end
 pub record IsCutAt (handed : Handed) (line : ℕ) (list : ListCode) (it : Listed) : Type 0 where
-  pub calls : calls_of it ≡ handed.calls ++ (list.records.items ++ Open ∷ [])
+  pub calls : calls_of it ≡ handed.calls ++ (list.records ++ Open ∷ [])
   pub line_is : it.line ≡ line
   pub why : it.why ≡ Some TooLong
   pub places : HasPlaces handed.frees it.records list.freed
@@ -79,7 +79,7 @@ pub cut_is : (it : Listed) (handed : Handed) (progress : Progress) (line : ℕ) 
     → progress.records ≡ it.records → IsCut handed progress line list → IsCutAt handed line list (cut it)
 cut_is it handed progress line list same is =
     let long : most_records ≤ length it.records = subst (λ (xs : List Written). most_records ≤ length xs) same is.long in
-    let records : take (most_records - 1) (calls_in it.records) ≡ handed.calls ++ list.records.items =
+    let records : take (most_records - 1) (calls_in it.records) ≡ handed.calls ++ list.records =
     ap (λ xs. take (most_records - 1) (calls_in xs)) (sym same) ∙ is.records in
     let ends : option_map (λ one. one.line) (slice_get it.records (most_records - 1)) ≡ Some line =
     ap (λ xs. option_map (λ one. one.line) (slice_get xs (most_records - 1))) (sym same) ∙ is.ends_at in
@@ -87,7 +87,7 @@ cut_is it handed progress line list same is =
       calls =
           ap calls_of (cut_long it long)
           ∙ ap (λ xs. xs ++ Open ∷ []) (sym (take-map (λ one. one.call) (most_records - 1) it.records) ∙ records)
-          ∙ append_assoc handed.calls list.records.items (Open ∷ []);
+          ∙ append_assoc handed.calls list.records (Open ∷ []);
       line_is = ap (λ one. one.line) (cut_long it long) ∙ some_line (slice_get it.records (most_records - 1)) line ends;
       why = ap (λ one. one.why) (cut_long it long);
       places =

@@ -45,9 +45,9 @@ pub count_of_none : (f : Walk → ℕ) (walks : List Walk) (rank : ℕ) → slic
 count_of_none f walks rank e = ap (λ it. unwrap_or it 0) (slice_get-map f walks rank ∙ ap (option_map f) e)
 
 -- the records that wait are the calls after those that were handed on
-pub waiting_are : (listed : Listed) (walk : Walk) → IsPart listed walk → walk.list.records.items ≡ take (made_by walk - walk.handed) (drop walk.handed (calls_of listed))
+pub waiting_are : (listed : Listed) (walk : Walk) → IsPart listed walk → walk.list.records ≡ take (made_by walk - walk.handed) (drop walk.handed (calls_of listed))
 waiting_are listed walk part =
-    let items = walk.list.records.items in
+    let items = walk.list.records in
     let count : made_by walk - walk.handed ≡ length items = omega arith in
     let after : drop walk.handed (calls_of listed) ≡ items ++ part.rest =
     ap (λ n. drop n (calls_of listed)) (sym part.count) ∙ ap (drop (length part.handed)) part.has.calls ∙ drop-append_seam part.handed (items ++ part.rest) in
@@ -55,7 +55,7 @@ waiting_are listed walk part =
 
 pub all_made : (listed : Listed) (walk : Walk) (part : IsPart listed walk) → length (calls_of listed) ≡ made_by walk + length part.rest
 all_made listed walk part =
-    let items = walk.list.records.items in
+    let items = walk.list.records in
     let all : length (calls_of listed) ≡ length (part.handed ++ (items ++ part.rest)) = ap length part.has.calls in
     omega (arith, all, length-append part.handed (items ++ part.rest), length-append items part.rest, part.count)
 
@@ -78,13 +78,13 @@ left_none journal walk e = some_left walk.is_over _ e
 
 -- ---- Records that are handed on ----
 
-pub forgotten : (listed : Listed) (old new : Walk) → IsPart listed old → new.list.records.items ≡ [] → new.handed ≡ old.handed + length old.list.records.items
+pub forgotten : (listed : Listed) (old new : Walk) → IsPart listed old → new.list.records ≡ [] → new.handed ≡ old.handed + length old.list.records
     → new.before ≡ old.before → new.line ≡ old.line → new.is_over ≡ old.is_over → new.left ≡ old.left → IsPart listed new
 forgotten listed old new part none handed before line over left =
-    let items = old.list.records.items in
-    let all : (part.handed ++ items) ++ (new.list.records.items ++ part.rest) ≡ part.handed ++ (items ++ part.rest) =
+    let items = old.list.records in
+    let all : (part.handed ++ items) ++ (new.list.records ++ part.rest) ≡ part.handed ++ (items ++ part.rest) =
     ap (λ xs. (part.handed ++ items) ++ (xs ++ part.rest)) none ∙ append_assoc part.handed items part.rest in
-    let made : (part.handed ++ items) ++ new.list.records.items ≡ part.handed ++ items =
+    let made : (part.handed ++ items) ++ new.list.records ≡ part.handed ++ items =
     ap (λ xs. (part.handed ++ items) ++ xs) none ∙ append-nil (part.handed ++ items) in
     record {
       handed = part.handed ++ items;
@@ -191,7 +191,7 @@ module _ (ranks : ℕ) (journals : List (Option JournalRead)) (choice : ChoiceMa
   pub ranks_run : ranks ≡ length seen.run
   ranks_run = is.ranks_are ∙ sym (length-map journals (option_map journal_in))
 
-  pub counts_at : (rank : ℕ) (walk : Walk) → slice_get walks rank ≡ Some walk → count_at seen.handed rank + length walk.list.records.items ≡ count_at seen.made rank
+  pub counts_at : (rank : ℕ) (walk : Walk) → slice_get walks rank ≡ Some walk → count_at seen.handed rank + length walk.list.records ≡ count_at seen.made rank
   counts_at rank walk at =
       let handed : count_at seen.handed rank ≡ walk.handed = count_of_walk (λ walk. walk.handed) walks rank walk at in
       let made : count_at seen.made rank ≡ made_by walk = count_of_walk made_by walks rank walk at in
@@ -203,7 +203,7 @@ module _ (ranks : ℕ) (journals : List (Option JournalRead)) (choice : ChoiceMa
       let made : count_at seen.made rank ≡ 0 = count_of_none made_by walks rank none in
       omega (arith, handed, made)
 
-  pub waiting_at : (rank : ℕ) (walk : Walk) → slice_get walks rank ≡ Some walk → IsFit seen.run seen.choice → walk.list.records.items ≡ calls_waiting seen rank
+  pub waiting_at : (rank : ℕ) (walk : Walk) → slice_get walks rank ≡ Some walk → IsFit seen.run seen.choice → walk.list.records ≡ calls_waiting seen rank
   waiting_at rank walk at fit =
       let handed : count_at seen.handed rank ≡ walk.handed = count_of_walk (λ walk. walk.handed) walks rank walk at in
       let made : count_at seen.made rank ≡ made_by walk = count_of_walk made_by walks rank walk at in
@@ -218,7 +218,7 @@ module _ (ranks : ℕ) (journals : List (Option JournalRead)) (choice : ChoiceMa
       let made : count_at seen.made rank ≡ made_by walk = count_of_walk made_by walks rank walk at in
       let part = rank_part ranks journals choice kept walks is fit rank walk at in
       sym (part.has.lines place (omega (arith, from, before))
-      (omega (arith, within, made, part.count, length-append part.handed walk.list.records.items)))
+      (omega (arith, within, made, part.count, length-append part.handed walk.list.records)))
 
   none_past : (rank : ℕ) → slice_get walks rank ≡ None → length seen.run ≤ rank
   none_past rank none = by_order (cases_lt rank (length walks))

@@ -92,9 +92,9 @@ walk_of_grows run choice kept later rank walk same grows is = record {
 
 -- ---- Records that are handed on ----
 
-pub forgotten_walk : (run : Run) (choice : Choice) (table : Table) (old : Walk) (list : ListCode) (handed : ℕ) → IsWalk run choice table old → list.records.items ≡ []
-    → handed ≡ old.handed + length old.list.records.items
-    → ((before : Handed) (progress : Progress) → Stands before progress old.list → Stands (record before { calls = before.calls ++ old.list.records.items }) progress list)
+pub forgotten_walk : (run : Run) (choice : Choice) (table : Table) (old : Walk) (list : ListCode) (handed : ℕ) → IsWalk run choice table old → list.records ≡ []
+    → handed ≡ old.handed + length old.list.records
+    → ((before : Handed) (progress : Progress) → Stands before progress old.list → Stands (record before { calls = before.calls ++ old.list.records }) progress list)
     → list.freed ≡ old.list.freed → IsWalk run choice table (record old { list = list; handed = handed })
 forgotten_walk run choice table old list handed is none count stands freed = record {
   part = forgotten (list_of run choice old.rank) old (record old { list = list; handed = handed }) is.part none count refl refl refl refl;
@@ -109,10 +109,10 @@ forgotten_walk run choice table old list handed is none count stands freed = rec
       journal = on.journal;
       there = on.there;
       so_far = record {
-        handed = record on.so_far.handed { calls = on.so_far.handed.calls ++ old.list.records.items };
+        handed = record on.so_far.handed { calls = on.so_far.handed.calls ++ old.list.records };
         progress = on.so_far.progress;
         frees = on.so_far.frees;
-        count = length-append on.so_far.handed.calls old.list.records.items ∙ ap (λ n. n + length old.list.records.items) on.so_far.count ∙ sym count;
+        count = length-append on.so_far.handed.calls old.list.records ∙ ap (λ n. n + length old.list.records) on.so_far.count ∙ sym count;
         stands = stands on.so_far.handed on.so_far.progress on.so_far.stands;
         late = on.so_far.late;
         kept = kept_as on.so_far.progress.records old (record old { list = list; handed = handed }) refl refl refl refl on.so_far.kept;
@@ -131,8 +131,8 @@ forgotten_walk run choice table old list handed is none count stands freed = rec
     }
 
 pub forgotten_of : (run : Run) (choice : ChoiceMade) (kept : Communicators) (rank : ℕ) (old new : Walk) → new ≡ record old { list = new.list; handed = new.handed }
-    → IsWalkOf run choice kept rank old → new.list.records.items ≡ [] → new.handed ≡ old.handed + length old.list.records.items
-    → ((before : Handed) (progress : Progress) → Stands before progress old.list → Stands (record before { calls = before.calls ++ old.list.records.items }) progress new.list)
+    → IsWalkOf run choice kept rank old → new.list.records ≡ [] → new.handed ≡ old.handed + length old.list.records
+    → ((before : Handed) (progress : Progress) → Stands before progress old.list → Stands (record before { calls = before.calls ++ old.list.records }) progress new.list)
     → new.list.freed ≡ old.list.freed → IsWalkOf run choice kept rank new
 forgotten_of run choice kept rank old new same is none count stands freed =
     subst (λ (it : Walk). IsWalkOf run choice kept rank it) (sym same)
@@ -188,7 +188,7 @@ module _ (ranks : ℕ) (journals : List (Option JournalRead)) (choice : ChoiceMa
 pub record HasStepped (kept later : Communicators) (lines : List Line) (old new : Walk) : Type 0 where
   pub rank : (new.rank ≡ old.rank) × (new.choice ≡ old.choice)
   pub handed : new.handed ≡ old.handed
-  pub before : old.handed + length old.list.records.items < 18446744073709551616 → new.before ≡ old.handed + length old.list.records.items
+  pub before : old.handed + length old.list.records < 18446744073709551616 → new.before ≡ old.handed + length old.list.records
   pub run : later ≡ record kept { keys = later.keys }
   pub next : length lines ≤ 4294967292 → (new.is_over ≡ true) ⊎ ((old.next < length lines) × (old.next < new.next))
   pub walk : (said : Run) (heading : Heading) → IsFit said (choice_in old.choice) → IsNumberedRun said kept → length lines ≤ 4294967292
@@ -196,7 +196,7 @@ pub record HasStepped (kept later : Communicators) (lines : List Line) (old new 
       → IsWalk said (choice_in old.choice) later.keys new × Grows kept.keys later.keys
   pub more : (said : Run) (heading : Heading) → IsFit said (choice_in old.choice) → IsNumberedRun said kept → length lines ≤ 4294967292
       → journal_at said old.rank ≡ Some (record { heading = heading; lines = lines }) → old.is_over ≡ false → IsWalk said (choice_in old.choice) kept.keys old
-      → length old.list.records.items ≤ length new.list.records.items
+      → length old.list.records ≤ length new.list.records
 
 fewer_left : (b : Bool) (lines before after : ℕ) → (b ≡ true) ⊎ ((before < lines) × (before < after)) → (if b then 0 else lines - after + 1) < lines - before + 1
 fewer_left true lines before after h = omega arith
@@ -229,7 +229,7 @@ module _ (ranks : ℕ) (journals : List (Option JournalRead)) (choice : ChoiceMa
       (has.walk (run_in journals) (heading_in journal.header) (subst (λ (it : Choice). IsFit (run_in journals) it) (sym made) fit) one.numbered few_lines (said_there fit) goes
       (subst (λ (it : Choice). IsWalk (run_in journals) it kept.keys old) (sym made) one.is))
 
-  more_made : IsFit (run_in journals) (choice_in choice) → length old.list.records.items ≤ length new.list.records.items
+  more_made : IsFit (run_in journals) (choice_in choice) → length old.list.records ≤ length new.list.records
   more_made fit =
       let one = is.have.are fit rank old at in
       let made = ap (λ it. choice_in it) one.choice_is in

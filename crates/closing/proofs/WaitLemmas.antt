@@ -82,7 +82,7 @@ take_few (suc n) (x ∷ xs) = omega (arith, take_few n xs)
 
 pub puts_none : (it : ListCode) → Puts it it []
 puts_none it = record {
-  records = sym (append-nil it.records.items);
+  records = sym (append-nil it.records);
   count = omega arith;
   active = refl;
   free = refl;
@@ -93,7 +93,7 @@ puts_none it = record {
 
 puts_more : (old mid new : ListCode) (xs ys : List Call) → Puts old mid xs → Puts mid new ys → Puts old new (xs ++ ys)
 puts_more old mid new xs ys first more = record {
-  records = more.records ∙ ap (λ it. it ++ ys) first.records ∙ append_assoc old.records.items xs ys;
+  records = more.records ∙ ap (λ it. it ++ ys) first.records ∙ append_assoc old.records xs ys;
   count = omega (arith, more.count, first.count, length-append xs ys);
   active = more.active ∙ first.active;
   free = more.free ∙ first.free;
@@ -112,11 +112,11 @@ cuts_more old mid new xs ys zs first room cuts =
       records =
           cuts.records
           ∙ ap (λ it. it ++ take (MOST_RECORDS - 1 - mid.count) ys) first.records
-          ∙ append_assoc old.records.items xs (take (MOST_RECORDS - 1 - mid.count) ys)
-          ∙ ap (λ n. old.records.items ++ (xs ++ take n ys)) left
-          ∙ ap (λ it. old.records.items ++ (xs ++ it)) (sym (take-append-le (MOST_RECORDS - 1 - old.count - length xs) ys zs within))
-          ∙ ap (λ it. old.records.items ++ it) (sym (take_past (MOST_RECORDS - 1 - old.count) xs (ys ++ zs) (omega (arith, first.count, room))))
-          ∙ ap (λ it. old.records.items ++ take (MOST_RECORDS - 1 - old.count) it) (sym (append_assoc xs ys zs));
+          ∙ append_assoc old.records xs (take (MOST_RECORDS - 1 - mid.count) ys)
+          ∙ ap (λ n. old.records ++ (xs ++ take n ys)) left
+          ∙ ap (λ it. old.records ++ (xs ++ it)) (sym (take-append-le (MOST_RECORDS - 1 - old.count - length xs) ys zs within))
+          ∙ ap (λ it. old.records ++ it) (sym (take_past (MOST_RECORDS - 1 - old.count) xs (ys ++ zs) (omega (arith, first.count, room))))
+          ∙ ap (λ it. old.records ++ take (MOST_RECORDS - 1 - old.count) it) (sym (append_assoc xs ys zs));
       freed = cuts.freed ∙ first.freed;
     }
 

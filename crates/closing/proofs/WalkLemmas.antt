@@ -48,11 +48,11 @@ part_of_on run choice table walk on goes =
     let begun = list_begins run choice so_far.progress (entries_left walk.rank on.journal walk.next) in
     let records : whole.records ≡ so_far.progress.records ++ begun.0 = ap (λ it. it.records) (sym so_far.list) ∙ begun.1 in
     let few : length so_far.progress.records < most_records = omega (arith, so_far.stands.count, so_far.stands.short) in
-    let has = calls_so_far whole so_far.handed.calls walk.list.records.items so_far.progress.records begun.0 walk.before walk.line records few so_far.stands.records on.lines in
+    let has = calls_so_far whole so_far.handed.calls walk.list.records so_far.progress.records begun.0 walk.before walk.line records few so_far.stands.records on.lines in
     record {
       handed = so_far.handed.calls;
       rest = has.0;
-      has = subst (λ (it : Listed). HasCalls it so_far.handed.calls walk.list.records.items has.0 walk.before walk.line) (sym (list_is_cut run choice walk.rank on.journal on.there)) has.1;
+      has = subst (λ (it : Listed). HasCalls it so_far.handed.calls walk.list.records has.0 walk.before walk.line) (sym (list_is_cut run choice walk.rank on.journal on.there)) has.1;
       count = so_far.count;
       over = λ is. absurd (true_false walk.is_over is goes);
     }
@@ -63,7 +63,7 @@ part_of_on run choice table walk on goes =
 
 -- so is one that has ended
 pub part_of_ended : (run : Run) (choice : Choice) (rank : ℕ) (journal : Journal) (handed : Handed) (list : ListCode) (end : Call) (why : Option Why) (walk : Walk) → journal_at run rank ≡ Some journal
-    → IsEnded (cut (whole_list run choice rank)) handed list end walk.before walk.line why → walk.list.records.items ≡ list.records.items ++ end ∷ [] → length handed.calls ≡ walk.handed
+    → IsEnded (cut (whole_list run choice rank)) handed list end walk.before walk.line why → walk.list.records ≡ list.records ++ end ∷ [] → length handed.calls ≡ walk.handed
     → walk.left ≡ left_as walk.line why → IsPart (list_of run choice rank) walk
 part_of_ended run choice rank journal handed list end why walk there is same count left =
     let whole = cut (whole_list run choice rank) in

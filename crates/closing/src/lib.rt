@@ -17,6 +17,7 @@
 //! | `outcomes`, `message` | what is reported of requests; messages, and what can't be | `Reported`, `Endings` |
 //! | `moved` | the receives that go on in the journal after this one | `Moved` |
 //! | `freed` | the requests that a rank's program frees, and where its list starts them | `Freed` |
+//! | `started` | the active requests of a rank, by its own numbers | `Steps` |
 //! | `list` | the records of a rank so far, and its active requests with their numbers | `Steps` |
 //! | `walk` | one rank: what stands for its entries, and where and why its list ends | `Entry`, `Endings`, `Recording` |
 //!

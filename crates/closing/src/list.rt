@@ -15,6 +15,7 @@ use crate::why::Why;
 use mpicall::call::{Call, Kind, Mode, Peer};
 use mpicall::limits::{GREATEST_REQUEST, MOST_REQUESTS};
 use mpicall::record::Record;
+use mpicall::records::Records;
 use mpicall::reqs::Reqs;
 use std::alloc::{AllocError, Global};
 use std::cmp::Reverse;
@@ -94,7 +95,7 @@ impl Start {
 #[derive(Drop)]
 pub(crate) struct List {
     /// The records that weren't handed on yet.
-    records: Vec<Record>,
+    records: Records,
     /// How many records there are in all.
     count: u32,
     /// The active requests, by the rank's own numbers of requests and messages.
@@ -168,7 +169,7 @@ impl List {
             Stands handed (record { records = []; active = []; late = late }) result }
     {
         List {
-            records: Vec::new(alloc),
+            records: Records::new(alloc),
             count: 0,
             active: Started::new(alloc),
             free: BinaryHeap::new(alloc),
@@ -180,7 +181,7 @@ impl List {
 
     /// The records that weren't handed on yet.
     pub(crate) fn records(&self) -> &[Record]
-        ensures { result.now ≡ self.now.records.items }
+        ensures { result.now ≡ self.now.records }
     {
         self.records.as_slice()
     }
@@ -188,9 +189,9 @@ impl List {
     /// Those records were handed on.
     #[tactic(auto, using(crate::proofs::ListLemmas::handed_on))]
     pub(crate) fn forget_records(&mut self)
-        ensures records { self.new.records.items ≡ [] }
+        ensures records { self.new.records ≡ [] }
         ensures freed { self.new.freed ≡ self.old.freed }
-        ensures stands { (handed : Handed) (progress : Progress) → Stands handed progress self.old → Stands (record handed { calls = handed.calls ++ self.old.records.items }) progress self.new }
+        ensures stands { (handed : Handed) (progress : Progress) → Stands handed progress self.old → Stands (record handed { calls = handed.calls ++ self.old.records }) progress self.new }
     {
         self.records.clear();
     }
@@ -228,15 +229,15 @@ impl List {
 
     /// Adds a line that has room in every list: its end, or a line of the preface.
     pub(crate) fn put(&mut self, call: Call) -> Result<(), AllocError>
-        ensures records { OnOk result (IsTrue (in_ranges call) → self.new.records.items ≡ self.old.records.items ++ call ∷ []) }
+        ensures records { OnOk result (IsTrue (in_ranges call) → self.new.records ≡ self.old.records ++ call ∷ []) }
         ensures freed { self.new.freed ≡ self.old.freed }
         ensures puts { OnOk result (IsTrue (in_ranges call) → self.old.count < MOST_RECORDS → Puts self.old self.new (call ∷ [])) }
         ensures stands { OnOk result ((handed : Handed) (progress : Progress) (line : ℕ) → Stands handed progress self.old → IsTrue (in_ranges call) → self.old.count + 1 < MOST_RECORDS → Stands handed (after_step progress line (Does call)) self.new) }
     {
-        let Some(record) = Record::new(call) else {
+        let is_put = self.records.put(&call)?;
+        if !is_put {
             return Ok(());
-        };
-        self.records.push(record)?;
+        }
         self.count = self.count.saturating_add(1);
         Ok(())
     }

@@ -298,7 +298,7 @@ impl Walk {
     #[tactic(auto, using(crate::proofs::PartLemmas::cut_is, crate::proofs::PartLemmas::cut_begins))]
     fn leave(&mut self, why: Why) -> Result<(), AllocError>
         ensures same { self.new ≡ record self.old { list = self.new.list; is_over = true; left = Some (record { line = self.old.line; why = why }) } }
-        ensures end { OnOk result (self.new.list.records.items ≡ self.old.list.records.items ++ Open ∷ []) }
+        ensures end { OnOk result (self.new.list.records ≡ self.old.list.records ++ Open ∷ []) }
         ensures freed { self.new.list.freed ≡ self.old.list.freed }
     {
         self.left = Some(Left {
@@ -310,7 +310,7 @@ impl Walk {
 
     fn finish(&mut self, end: Call) -> Result<(), AllocError>
         ensures same { self.new ≡ record self.old { list = self.new.list; is_over = true } }
-        ensures end { OnOk result (IsTrue (in_ranges end) → self.new.list.records.items ≡ self.old.list.records.items ++ end ∷ []) }
+        ensures end { OnOk result (IsTrue (in_ranges end) → self.new.list.records ≡ self.old.list.records ++ end ∷ []) }
         ensures freed { self.new.list.freed ≡ self.old.list.freed }
     {
         self.is_over = true;
@@ -321,7 +321,7 @@ impl Walk {
 
     /// The records that weren't handed on yet, all of one entry.
     pub(crate) fn records(&self) -> &[Record]
-        ensures { result.now ≡ self.now.list.records.items }
+        ensures { result.now ≡ self.now.list.records }
     {
         self.list.records()
     }
@@ -329,10 +329,10 @@ impl Walk {
     /// Those records were handed on.
     pub(crate) fn forget_records(&mut self)
         ensures same { self.new ≡ record self.old { list = self.new.list; handed = self.new.handed } }
-        ensures none { self.new.list.records.items ≡ [] }
-        ensures handed { self.old.handed + length self.old.list.records.items < 2 ^ 64 → self.new.handed ≡ self.old.handed + length self.old.list.records.items }
+        ensures none { self.new.list.records ≡ [] }
+        ensures handed { self.old.handed + length self.old.list.records < 2 ^ 64 → self.new.handed ≡ self.old.handed + length self.old.list.records }
         ensures stands { (handed : Handed) (progress : Progress) → Stands handed progress self.old.list →
-            Stands (record handed { calls = handed.calls ++ self.old.list.records.items }) progress self.new.list }
+            Stands (record handed { calls = handed.calls ++ self.old.list.records }) progress self.new.list }
         ensures freed { self.new.list.freed ≡ self.old.list.freed }
     {
         let count = self.list.records().len();
@@ -449,7 +449,7 @@ impl Walk {
     pub(crate) fn step(&mut self, run: &mut Communicators, lines: &Lines) -> Result<(), AllocError>
         ensures rank { (self.new.rank ≡ self.old.rank) × (self.new.choice ≡ self.old.choice) }
         ensures handed { self.new.handed ≡ self.old.handed }
-        ensures before { OnOk result (self.old.handed + length self.old.list.records.items < 2 ^ 64 → self.new.before ≡ self.old.handed + length self.old.list.records.items) }
+        ensures before { OnOk result (self.old.handed + length self.old.list.records < 2 ^ 64 → self.new.before ≡ self.old.handed + length self.old.list.records) }
         ensures run { run.new ≡ record run.old { keys = run.new.keys } }
         ensures next { OnOk result (length lines.now ≤ 4294967292 → (self.new.is_over ≡ true) ⊎ ((self.old.next < length lines.now) × (self.old.next < self.new.next))) }
         ensures walk { OnOk result ((said : Run) (heading : Heading) → IsFit said (choice_in self.old.choice) → IsNumberedRun said run.old →
@@ -459,7 +459,7 @@ impl Walk {
         ensures more { OnOk result ((said : Run) (heading : Heading) → IsFit said (choice_in self.old.choice) → IsNumberedRun said run.old →
             length lines.now ≤ 4294967292 → journal_at said self.old.rank ≡ Some (record { heading = heading; lines = lines.now }) →
             self.old.is_over ≡ false → IsWalk said (choice_in self.old.choice) run.old.keys self.old →
-            length self.old.list.records.items ≤ length self.new.list.records.items) }
+            length self.old.list.records ≤ length self.new.list.records) }
     {
         let waiting = self.list.records().len();
         self.before = self.handed.saturating_add(waiting);

@@ -2,7 +2,8 @@
 //!
 //! A trace is a text with one line a call, as `send 0 1 5` or `waitall 7 8`, ended by its end record: `finalize`,
 //! or `open` where the rest was not recorded. This crate reads and writes such lines, over any input and output.
-//! It takes no memory, but for `memory::MemoryOutput`, an output that keeps its bytes.
+//! It takes no memory, but for `memory::MemoryOutput`, an output that keeps its bytes, and `records::Records`, a list
+//! that keeps the places of its records.
 //!
 //! What it promises, as contracts that are proved:
 //!
@@ -59,6 +60,7 @@ pub mod number;
 pub mod page;
 mod parsing;
 pub mod record;
+pub mod records;
 mod remembered;
 pub mod reqs;
 pub mod source;

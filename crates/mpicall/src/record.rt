@@ -148,7 +148,7 @@ fn args_in_ranges(call_args: CallArgs) -> bool
     }
 }
 
-fn is_in_ranges(call: &Call) -> bool
+pub(crate) fn is_in_ranges(call: &Call) -> bool
     ensures { result ≡ in_ranges call.now }
 {
     match *call {
@@ -247,27 +247,28 @@ impl Record {
         }
     }
 
-    /// Copies the record into a place: a short one field by field, since most of a record's bytes are for waits that
-    /// name many requests.
+    /// Makes it the record of a call: a short one is copied field by field, since most of a record's bytes are for waits
+    /// that name many requests.
     #[inline(always)]
-    pub(crate) fn write(&self, into: &mut Record)
-        ensures { into.new ≡ self.now }
+    pub(crate) fn set(&mut self, call: &Call)
+        requires { IsTrue (in_ranges call.now) }
+        ensures { self.new ≡ call.now }
     {
-        match self.call {
+        match *call {
             Call::Send {
                 mode,
                 comm,
                 dest,
                 tag,
                 bytes,
-            } => into.call = Call::Send {
+            } => self.call = Call::Send {
                 mode,
                 comm,
                 dest,
                 tag,
                 bytes,
             },
-            Call::Recv { comm, source, tag } => into.call = Call::Recv { comm, source, tag },
+            Call::Recv { comm, source, tag } => self.call = Call::Recv { comm, source, tag },
             Call::Isend {
                 req,
                 mode,
@@ -275,7 +276,7 @@ impl Record {
                 dest,
                 tag,
                 bytes,
-            } => into.call = Call::Isend {
+            } => self.call = Call::Isend {
                 req,
                 mode,
                 comm,
@@ -288,16 +289,24 @@ impl Record {
                 comm,
                 source,
                 tag,
-            } => into.call = Call::Irecv {
+            } => self.call = Call::Irecv {
                 req,
                 comm,
                 source,
                 tag,
             },
-            Call::Wait { req } => into.call = Call::Wait { req },
-            Call::Coll { comm, kind } => into.set_collective(comm, kind),
-            _ => slice::from_mut(into).copy_from_slice(slice::from_ref(self)),
+            Call::Wait { req } => self.call = Call::Wait { req },
+            Call::Coll { comm, kind } => self.set_collective(comm, kind),
+            _ => slice::from_mut(&mut self.call).copy_from_slice(slice::from_ref(call)),
         }
+    }
+
+    /// Copies the record into a place.
+    #[inline(always)]
+    pub(crate) fn write(&self, into: &mut Record)
+        ensures { into.new ≡ self.now }
+    {
+        into.set(&self.call);
     }
 
     /// Whether no call of the rank comes after this one.

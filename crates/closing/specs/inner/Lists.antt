@@ -87,7 +87,7 @@ pub record Handed : Type 0 where
 
 -- the list has these records, of which some were handed on, and these active requests
 pub record Stands (handed : Handed) (progress : Progress) (it : ListCode) : Type 0 where
-  pub records : calls_in progress.records ≡ handed.calls ++ it.records.items
+  pub records : calls_in progress.records ≡ handed.calls ++ it.records
   pub count : it.count ≡ length progress.records
   pub short : it.count < MOST_RECORDS
   pub given : it.given ≤ it.count
@@ -101,7 +101,7 @@ pub record Stands (handed : Handed) (progress : Progress) (it : ListCode) : Type
 -- the list ends within the records of this line: it has all but one of the most records, and its end has room
 pub record IsCut (handed : Handed) (progress : Progress) (line : ℕ) (it : ListCode) : Type 0 where
   pub long : MOST_RECORDS ≤ length progress.records
-  pub records : take (MOST_RECORDS - 1) (calls_in progress.records) ≡ handed.calls ++ it.records.items
+  pub records : take (MOST_RECORDS - 1) (calls_in progress.records) ≡ handed.calls ++ it.records
   pub ends_at : option_map (λ it. it.line) (slice_get progress.records (MOST_RECORDS - 1)) ≡ Some line
   pub places : HasPlaces handed.frees (take (MOST_RECORDS - 1) progress.records) it.freed
 
@@ -116,7 +116,7 @@ ComesTo (Err Memory) handed progress line it = Unit {0}
 
 -- these calls stand at its end now
 pub record Puts (old new : ListCode) (calls : List Call) : Type 0 where
-  pub records : new.records.items ≡ old.records.items ++ calls
+  pub records : new.records ≡ old.records ++ calls
   pub count : new.count ≡ old.count + length calls
   pub active : new.active ≡ old.active
   pub free : new.free ≡ old.free
@@ -127,7 +127,7 @@ pub record Puts (old new : ListCode) (calls : List Call) : Type 0 where
 -- as many of them as have room, where that isn't all
 pub record Cuts (old new : ListCode) (calls : List Call) : Type 0 where
   pub long : MOST_RECORDS ≤ old.count + length calls
-  pub records : new.records.items ≡ old.records.items ++ take (MOST_RECORDS - 1 - old.count) calls
+  pub records : new.records ≡ old.records ++ take (MOST_RECORDS - 1 - old.count) calls
   pub freed : new.freed ≡ old.freed
 
 abbrev pub Adds : {A : Type 0} → Result A Stop → ListCode → ListCode → List Call → Type 0
@@ -138,7 +138,7 @@ Adds (Err Memory) old new calls = Unit {0}
 
 -- its records and its active requests are as they were
 pub record KeepsRecords (old new : ListCode) : Type 0 where
-  pub records : new.records.items ≡ old.records.items
+  pub records : new.records ≡ old.records
   pub count : new.count ≡ old.count
   pub active : new.active ≡ old.active
   pub freed : new.freed ≡ old.freed

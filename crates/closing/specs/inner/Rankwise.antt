@@ -13,7 +13,7 @@ use Rattle.closing.specs.declared.walk.Walk.{Walk}
 
 -- how many records of the list of a rank were made
 abbrev pub made_by : Walk → ℕ
-made_by walk = walk.handed + length walk.list.records.items
+made_by walk = walk.handed + length walk.list.records
 
 -- how many lines of a rank's journal are left, with one for the end of its list; none where that has ended
 abbrev pub left_by : Option JournalRead × Walk → ℕ

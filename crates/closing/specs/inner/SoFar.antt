@@ -116,7 +116,7 @@ pub record IsOn (run : Run) (choice : Choice) (table : Table) (walk : Walk) : Ty
 pub record IsPart (listed : Listed) (walk : Walk) : Type 0 where
   pub handed : List Call
   pub rest : List Call
-  pub has : HasCalls listed handed walk.list.records.items rest walk.before walk.line
+  pub has : HasCalls listed handed walk.list.records rest walk.before walk.line
   pub count : length handed ≡ walk.handed
   pub over : walk.is_over ≡ true → (rest ≡ []) × (walk.left ≡ left_in listed)
 

@@ -1,5 +1,6 @@
 -- The line stands at the end of the list.
-use Rattle.std.proofs.Common.{◌∙◌, [], ◌∷◌, ◌++◌, ap, arith, refl}
+use Rattle.std.proofs.Common.{◌≡◌, [], ◌∷◌, ◌++◌, arith, refl, subst}
+use Rattle.std.specs.Prelude.{MatchBool}
 use Rattle.closing.proofs.ListLemmas.{put_stands}
 use Rattle.closing.proofs.list.List.put.Goals as goal
 
@@ -7,7 +8,8 @@ pub returns-clause-stands : goal.returns-clause-stands
 returns-clause-stands c = λ handed progress line stands fits room.
     put_stands handed progress line c.args.self.now _ c.args.call stands
     (record {
-      records = c.in_ok-push.ensures.items ∙ ap (λ it. c.args.self.now.records.items ++ it ∷ []) c.in-Some.ensures.value;
+      records = subst (λ is. MatchBool is (c.put-is_put.new.self.records ≡ c.args.self.now.records ++ c.args.call ∷ []) (c.put-is_put.new.self.records ≡ c.args.self.now.records))
+          c.if-not-is_put.false c.in_ok-is_put.ensures.records;
       count = omega (arith, room, c.saturating_add-self.ensures);
       active = refl;
       free = refl;

@@ -44,7 +44,7 @@ returns-clause-made c =
           rw (w.self-inside-is, c.from.ensures, ← c.self.view_is)
           (λ fit.
           let handed = w.forget_records.ensures.handed (made_few c.self.inside.ranks c.self.inside.journals.items c.self.inside.choice c.self.inside.run c.self.inside.walks.items c.args.rank w.in-Some.walk.now w.forget_records.new.self c.self.invariant at fit) in
-          let none : length w.forget_records.new.self.list.records.items ≡ 0 = ap length w.forget_records.ensures.none in
+          let none : length w.forget_records.new.self.list.records ≡ 0 = ap length w.forget_records.ensures.none in
           let same : made_by w.forget_records.new.self ≡ made_by w.in-Some.walk.now = omega (arith, handed, none) in
           map_stays c.self.inside.ranks c.self.inside.journals.items c.self.inside.choice c.self.inside.run c.self.inside.walks.items c.args.rank w.in-Some.walk.now w.forget_records.new.self c.self.invariant at made_by same)
       | in_default w ↦ rw (w.self-inside-is, ← c.self.view_is) (λ fit. refl)

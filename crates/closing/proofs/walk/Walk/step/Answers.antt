@@ -24,8 +24,8 @@ returns-in_default-clause-walk c = with_ok _ _ c.finish.result (λ end. λ said 
     let choice = choice_in s.choice in
     let so = so_far said choice journal kept s fit numbered few there goes walk in
     let small = count_small said choice journal kept.keys s so there in
-    let count : length c.records-waiting.result.now ≡ length s.list.records.items = ap length c.records-waiting.ensures in
-    let before : c.saturating_add-self.result ≡ s.handed + length s.list.records.items = omega (arith, small, count) in
+    let count : length c.records-waiting.result.now ≡ length s.list.records = ap length c.records-waiting.ensures in
+    let before : c.saturating_add-self.result ≡ s.handed + length s.list.records = omega (arith, small, count) in
     let new = c.finish.new.self in
     let same = c.finish.ensures.same in
     let none : (word : CallWord) → word_at lines s.next ≡ Some (CallLine word) → ⊥ = λ word at.
@@ -39,7 +39,7 @@ returns-in_default-clause-walk c = with_ok _ _ c.finish.result (λ end. λ said 
 
 pub returns-in_default-clause-more : goal.returns-in_default-clause-more
 returns-in_default-clause-more c = with_ok _ _ c.finish.result (λ end said heading fit numbered few there goes walk.
-    one_more c.args.self.now.list.records.items c.finish.new.self.list.records.items Open (end refl)) c.finish.ensures.end
+    one_more c.args.self.now.list.records c.finish.new.self.list.records Open (end refl)) c.finish.ensures.end
 
 pub returns-in-Ok-true-clause-walk : goal.returns-in-Ok-true-clause-walk
 returns-in-Ok-true-clause-walk c = with_ok _ _ c.finish-in-Ok-true.result (λ end. λ said heading fit numbered few there goes walk.
@@ -50,8 +50,8 @@ returns-in-Ok-true-clause-walk c = with_ok _ _ c.finish-in-Ok-true.result (λ en
     let choice = choice_in s.choice in
     let so = so_far said choice journal kept s fit numbered few there goes walk in
     let small = count_small said choice journal kept.keys s so there in
-    let count : length c.records-waiting.result.now ≡ length s.list.records.items = ap length c.records-waiting.ensures in
-    let before : c.saturating_add-self.result ≡ s.handed + length s.list.records.items = omega (arith, small, count) in
+    let count : length c.records-waiting.result.now ≡ length s.list.records = ap length c.records-waiting.ensures in
+    let before : c.saturating_add-self.result ≡ s.handed + length s.list.records = omega (arith, small, count) in
     let word = c.in-Some.word in
     let call : word_at lines s.next ≡ Some (CallLine word) = call_there (word_at lines s.next) word c.in-Some.ensures in
     let below = place_there lines s.next word call in
@@ -78,8 +78,8 @@ returns-in-Ok-true-clause-more c = with_ok _ _ c.finish-in-Ok-true.result (λ en
     let choice = choice_in s.choice in
     let so = so_far said choice journal kept s fit numbered few there goes walk in
     let small = count_small said choice journal kept.keys s so there in
-    let count : length c.records-waiting.result.now ≡ length s.list.records.items = ap length c.records-waiting.ensures in
-    let before : c.saturating_add-self.result ≡ s.handed + length s.list.records.items = omega (arith, small, count) in
+    let count : length c.records-waiting.result.now ≡ length s.list.records = ap length c.records-waiting.ensures in
+    let before : c.saturating_add-self.result ≡ s.handed + length s.list.records = omega (arith, small, count) in
     let word = c.in-Some.word in
     let call : word_at lines s.next ≡ Some (CallLine word) = call_there (word_at lines s.next) word c.in-Some.ensures in
     let below = place_there lines s.next word call in
@@ -95,7 +95,7 @@ returns-in-Ok-true-clause-more c = with_ok _ _ c.finish-in-Ok-true.result (λ en
     (is_before said choice journal kept s fit numbered few there goes walk word call c.saturating_add-self.result c.line_number-self.result reports before line are)
     (is_ready said choice journal kept s fit numbered few there goes walk word call c.saturating_add-self.result c.line_number-self.result reports before line are) in
     let is : c.take_entry.result ≡ Ok true = cc (c.in-Ok-true.is, c.in-Ok-true.field-0-test) in
-    one_more_than s.list.records.items one.list.records.items c.finish-in-Ok-true.new.self.list.records.items Finalize
+    one_more_than s.list.records one.list.records c.finish-in-Ok-true.new.self.list.records Finalize
     (step_more said choice journal kept s fit numbered few there goes walk word call c.saturating_add-self.result c.line_number-self.result reports before line are now c.take_entry.result one c.take_entry.ensures.same entered (Ok true) is (λ out. cc (out))) (end refl)) c.finish-in-Ok-true.ensures.end
 
 pub returns-in-Ok-false-clause-walk : goal.returns-in-Ok-false-clause-walk
@@ -107,8 +107,8 @@ returns-in-Ok-false-clause-walk c = λ said heading fit numbered few there goes 
     let choice = choice_in s.choice in
     let so = so_far said choice journal kept s fit numbered few there goes walk in
     let small = count_small said choice journal kept.keys s so there in
-    let count : length c.records-waiting.result.now ≡ length s.list.records.items = ap length c.records-waiting.ensures in
-    let before : c.saturating_add-self.result ≡ s.handed + length s.list.records.items = omega (arith, small, count) in
+    let count : length c.records-waiting.result.now ≡ length s.list.records = ap length c.records-waiting.ensures in
+    let before : c.saturating_add-self.result ≡ s.handed + length s.list.records = omega (arith, small, count) in
     let word = c.in-Some.word in
     let call : word_at lines s.next ≡ Some (CallLine word) = call_there (word_at lines s.next) word c.in-Some.ensures in
     let below = place_there lines s.next word call in
@@ -135,8 +135,8 @@ returns-in-Ok-false-clause-more c = λ said heading fit numbered few there goes 
     let choice = choice_in s.choice in
     let so = so_far said choice journal kept s fit numbered few there goes walk in
     let small = count_small said choice journal kept.keys s so there in
-    let count : length c.records-waiting.result.now ≡ length s.list.records.items = ap length c.records-waiting.ensures in
-    let before : c.saturating_add-self.result ≡ s.handed + length s.list.records.items = omega (arith, small, count) in
+    let count : length c.records-waiting.result.now ≡ length s.list.records = ap length c.records-waiting.ensures in
+    let before : c.saturating_add-self.result ≡ s.handed + length s.list.records = omega (arith, small, count) in
     let word = c.in-Some.word in
     let call : word_at lines s.next ≡ Some (CallLine word) = call_there (word_at lines s.next) word c.in-Some.ensures in
     let below = place_there lines s.next word call in
@@ -176,8 +176,8 @@ returns-in-Err-Left-clause-walk c = with_ok _ _ c.leave.result (λ end. λ said 
     let choice = choice_in s.choice in
     let so = so_far said choice journal kept s fit numbered few there goes walk in
     let small = count_small said choice journal kept.keys s so there in
-    let count : length c.records-waiting.result.now ≡ length s.list.records.items = ap length c.records-waiting.ensures in
-    let before : c.saturating_add-self.result ≡ s.handed + length s.list.records.items = omega (arith, small, count) in
+    let count : length c.records-waiting.result.now ≡ length s.list.records = ap length c.records-waiting.ensures in
+    let before : c.saturating_add-self.result ≡ s.handed + length s.list.records = omega (arith, small, count) in
     let word = c.in-Some.word in
     let call : word_at lines s.next ≡ Some (CallLine word) = call_there (word_at lines s.next) word c.in-Some.ensures in
     let below = place_there lines s.next word call in
@@ -204,8 +204,8 @@ returns-in-Err-Left-clause-more c = with_ok _ _ c.leave.result (λ end. λ said 
     let choice = choice_in s.choice in
     let so = so_far said choice journal kept s fit numbered few there goes walk in
     let small = count_small said choice journal kept.keys s so there in
-    let count : length c.records-waiting.result.now ≡ length s.list.records.items = ap length c.records-waiting.ensures in
-    let before : c.saturating_add-self.result ≡ s.handed + length s.list.records.items = omega (arith, small, count) in
+    let count : length c.records-waiting.result.now ≡ length s.list.records = ap length c.records-waiting.ensures in
+    let before : c.saturating_add-self.result ≡ s.handed + length s.list.records = omega (arith, small, count) in
     let word = c.in-Some.word in
     let call : word_at lines s.next ≡ Some (CallLine word) = call_there (word_at lines s.next) word c.in-Some.ensures in
     let below = place_there lines s.next word call in
@@ -221,7 +221,7 @@ returns-in-Err-Left-clause-more c = with_ok _ _ c.leave.result (λ end. λ said 
     (is_before said choice journal kept s fit numbered few there goes walk word call c.saturating_add-self.result c.line_number-self.result reports before line are)
     (is_ready said choice journal kept s fit numbered few there goes walk word call c.saturating_add-self.result c.line_number-self.result reports before line are) in
     let is : c.take_entry.result ≡ Err (Left c.in-Err-Left.why) = cc (c.in-Err-Left.is, c.in-Err-Left.field-0-is) in
-    one_more_than s.list.records.items one.list.records.items c.leave.new.self.list.records.items Open
+    one_more_than s.list.records one.list.records c.leave.new.self.list.records Open
     (step_more said choice journal kept s fit numbered few there goes walk word call c.saturating_add-self.result c.line_number-self.result reports before line are now c.take_entry.result one c.take_entry.ensures.same entered (Err (Left c.in-Err-Left.why)) is (λ out. cc (out))) end) c.leave.ensures.end
 
 pub returns-in_default-clause-rank : goal.returns-in_default-clause-rank
