@@ -52,6 +52,7 @@ pub mod LongerLemmas
 pub mod LongerSteps
 pub mod LongerMakers
 pub mod LongerWaves
+pub mod LongerWindows
 pub mod LongerLists
 pub mod SinkStays
 pub mod SinkGoes

@@ -3,7 +3,7 @@ use Rattle.std.proofs.Common.{◌≡◌, ◌⊎◌, ℕ, ◌+◌, ◌||◌, Bool
 use Rattle.std.specs.Prelude.{⊤}
 use Rattle.std.specs.List.{find, list_any}
 use Rattle.std.proofs.lemmas.Bool.{cases_Bool, false≢true}
-use Rattle.std.proofs.lemmas.List.Folds.{list_any-append, find-append}
+use Rattle.std.proofs.lemmas.List.Folds.{list_any-append}
 use Rattle.journals.specs.Lines.{Line}
 use Rattle.journals.specs.Words.{is_call}
 use Rattle.journals.specs.Faults.{is_free}
@@ -19,10 +19,10 @@ use Rattle.journals.specs.declared.word.ReportWord.TheVariants as report
 use Rattle.closing.specs.Called.{Called, StartsSend, StartsReceive, StartsExchange, ProbesMatching, StartsMatched, StartsCollective, StartsDuplicate, ReceivesMatched, Waits, Tests, WaitsAny, WaitsSome, Cancels, FreesRequest, called}
 use Rattle.closing.specs.RankComms.{RankComms, comms_first, after_line}
 use Rattle.closing.specs.Entries.{Run, Placed, journal_at, lines_in, entries_from, entries_in, entries_at, did_come_back}
-use Rattle.closing.specs.Reported.{is_gone}
+use Rattle.closing.specs.Reported.{is_gone, is_moved, is_left_out}
 use Rattle.closing.specs.Entry.{id_of, is_of_send}
 use Rattle.lawful.specs.Laws.{IsRead}
-use Rattle.lawful.specs.Longer.{HasMore, NoneIsGone}
+use Rattle.lawful.specs.Longer.{HasMore, NoneIsGone, NoneIsMoved}
 use Rattle.lawful.proofs.RightLines.{AreRight}
 use Rattle.lawful.proofs.RunFacts.{right_of_rank}
 use Rattle.lawful.proofs.NewNumbers.{AllOf, IsKnown, IsKnownMessage, New, Numbers, called_numbers}
@@ -35,11 +35,17 @@ use Rattle.lawful.proofs.NamedRequests.{chosen_known}
 -- what the longer journal says of a request is what the other does
 pub record StaysOf (lines later : List Line) (request : ℕ) : Type 0 where
   pub gone : is_gone later request ≡ is_gone lines request
+  pub moved : is_moved later request ≡ is_moved lines request
   pub id : id_of later request ≡ id_of lines request
   pub sends : is_of_send later request ≡ is_of_send lines request
 
-abbrev pub NoneGone : List Line → List Line → Type 0
-NoneGone lines later = (request : ℕ) → is_free lines request ≡ false → is_gone later request ≡ is_gone lines request
+abbrev pub NoneOut : List Line → List Line → Type 0
+NoneOut lines later =
+    (request : ℕ) → is_free lines request ≡ false → (is_gone later request ≡ is_gone lines request) × (is_moved later request ≡ is_moved lines request)
+
+pub out_stays : (lines later : List Line) (request : ℕ) → StaysOf lines later request → is_left_out later request ≡ is_left_out lines request
+out_stays lines later request is =
+    ap (λ (b : Bool). b || is_moved later request) is.gone ∙ ap (λ (b : Bool). is_gone lines request || b) is.moved
 
 right_first : (before lines more : List Line) → AreRight before (lines ++ more) → AreRight before lines
 right_first before [] more right = tt
@@ -51,23 +57,27 @@ taken_later before (line ∷ lines) request taken =
     subst (λ (ls : List Line). is_free ls request ≡ false) (append_assoc before (line ∷ []) lines)
     (taken_later (before ++ line ∷ []) lines request (still_taken before line request taken))
 
-stays_of : (before lines more : List Line) (request : ℕ) → AreRight before (lines ++ more) → is_free before request ≡ false → is_gone (before ++ (lines ++ more)) request ≡ is_gone (before ++ lines) request → StaysOf (before ++ lines) (before ++ (lines ++ more)) request
-stays_of before lines more request right taken gone =
+stays_of : (before lines more : List Line) (request : ℕ) → AreRight before (lines ++ more) → is_free before request ≡ false → is_gone (before ++ (lines ++ more)) request ≡ is_gone (before ++ lines) request → is_moved (before ++ (lines ++ more)) request ≡ is_moved (before ++ lines) request → StaysOf (before ++ lines) (before ++ (lines ++ more)) request
+stays_of before lines more request right taken gone moved =
     let first = right_first before lines more right in
     record {
       gone = gone;
+      moved = moved;
       id = sym (same_id before (lines ++ more) request right taken) ∙ same_id before lines request first taken;
       sends = same_send before (lines ++ more) request right taken ∙ sym (same_send before lines request first taken);
     }
 
+same_as : (said : List Line → Bool) (all later one other : List Line) → all ≡ one → later ≡ other → said later ≡ said all → said other ≡ said one
+same_as said all later one other are also same = ap said (sym also) ∙ same ∙ ap said are
+
 -- one that was given a number in the first of these lines
-request_stays : (all later before lines more : List Line) (request : ℕ) → all ≡ before ++ lines → later ≡ before ++ (lines ++ more) → AreRight before (lines ++ more) → is_free before request ≡ false → NoneGone all later → StaysOf all later request
-request_stays all later before lines more request are also right taken gone =
+request_stays : (all later before lines more : List Line) (request : ℕ) → all ≡ before ++ lines → later ≡ before ++ (lines ++ more) → AreRight before (lines ++ more) → is_free before request ≡ false → NoneOut all later → StaysOf all later request
+request_stays all later before lines more request are also right taken out =
     let known : is_free all request ≡ false = subst (λ (ls : List Line). is_free ls request ≡ false) (sym are) (taken_later before lines request taken) in
-    let same : is_gone (before ++ (lines ++ more)) request ≡ is_gone (before ++ lines) request =
-    ap (λ (ls : List Line). is_gone ls request) (sym also) ∙ gone request known ∙ ap (λ (ls : List Line). is_gone ls request) are in
+    let gone = same_as (λ ls. is_gone ls request) all later (before ++ lines) (before ++ (lines ++ more)) are also (out request known).0 in
+    let moved = same_as (λ ls. is_moved ls request) all later (before ++ lines) (before ++ (lines ++ more)) are also (out request known).1 in
     subst (λ (ls : List Line). StaysOf ls later request) (sym are)
-    (subst (λ (ls : List Line). StaysOf (before ++ lines) ls request) (sym also) (stays_of before lines more request right taken same))
+    (subst (λ (ls : List Line). StaysOf (before ++ lines) ls request) (sym also) (stays_of before lines more request right taken gone moved))
 
 -- ---- The requests of a call ----
 
@@ -179,8 +189,8 @@ no_call rank journal number comms (line ∷ lines) none =
 came_by : (journal : Journal) (entry : Entry) (lines : List Line) → has_call lines ≡ true → did_come_back journal entry lines ≡ true
 came_by journal entry lines has = rw has refl
 
-call_later : (rank : ℕ) (journal later : Journal) (number : ℕ) (comms : RankComms) (before : List Line) (word : CallWord) (fields : List Field) (lines more : List Line) → journal.lines ≡ before ++ record { word = CallLine word; fields = fields } ∷ lines → later.lines ≡ before ++ record { word = CallLine word; fields = fields } ∷ (lines ++ more) → AreRight before (record { word = CallLine word; fields = fields } ∷ (lines ++ more)) → NoneGone journal.lines later.lines → ((n : ℕ) (c : RankComms) → AreLater (entries_from rank journal n c lines) (entries_from rank later n c (lines ++ more))) → AreLater (entries_from rank journal number comms (record { word = CallLine word; fields = fields } ∷ lines)) (entries_from rank later number comms (record { word = CallLine word; fields = fields } ∷ (lines ++ more)))
-call_later rank journal later number comms before word fields lines more are also right gone rest =
+call_later : (rank : ℕ) (journal later : Journal) (number : ℕ) (comms : RankComms) (before : List Line) (word : CallWord) (fields : List Field) (lines more : List Line) → journal.lines ≡ before ++ record { word = CallLine word; fields = fields } ∷ lines → later.lines ≡ before ++ record { word = CallLine word; fields = fields } ∷ (lines ++ more) → AreRight before (record { word = CallLine word; fields = fields } ∷ (lines ++ more)) → NoneOut journal.lines later.lines → ((n : ℕ) (c : RankComms) → AreLater (entries_from rank journal n c lines) (entries_from rank later n c (lines ++ more))) → AreLater (entries_from rank journal number comms (record { word = CallLine word; fields = fields } ∷ lines)) (entries_from rank later number comms (record { word = CallLine word; fields = fields } ∷ (lines ++ more)))
+call_later rank journal later number comms before word fields lines more are also right out rest =
     (record { it = it; is = refl }, over, rest (number + 1) (after_line comms line))
   where
     line : Line
@@ -193,12 +203,12 @@ call_later rank journal later number comms before word fields lines more are als
     Stays request = StaysOf journal.lines later.lines request
 
     known : (request : ℕ) → is_free before request ≡ false → Stays request
-    known request taken = request_stays journal.lines later.lines before (line ∷ lines) more request are also right taken gone
+    known request taken = request_stays journal.lines later.lines before (line ∷ lines) more request are also right taken out
 
     new : (request : ℕ) → New before word fields request → Stays request
     new request is =
         request_stays journal.lines later.lines (before ++ line ∷ []) lines more request (are ∙ sym (append_assoc before (line ∷ []) lines))
-        (also ∙ sym (append_assoc before (line ∷ []) (lines ++ more))) right.1 (new_taken before word fields request is) gone
+        (also ∙ sym (append_assoc before (line ∷ []) (lines ++ more))) right.1 (new_taken before word fields request is) out
 
     it : More (record {
       rank = rank;
@@ -266,35 +276,35 @@ call_later rank journal later number comms before word fields lines more are als
           | inr none ↦ inl (no_call rank journal (number + 1) (after_line comms line) lines none)
         ]
 
-line_later : (rank : ℕ) (journal later : Journal) (number : ℕ) (comms : RankComms) (before : List Line) (word : Word) (fields : List Field) (lines more : List Line) → journal.lines ≡ before ++ record { word = word; fields = fields } ∷ lines → later.lines ≡ before ++ record { word = word; fields = fields } ∷ (lines ++ more) → AreRight before (record { word = word; fields = fields } ∷ (lines ++ more)) → NoneGone journal.lines later.lines → ((n : ℕ) (c : RankComms) → AreLater (entries_from rank journal n c lines) (entries_from rank later n c (lines ++ more))) → AreLater (entries_from rank journal number comms (record { word = word; fields = fields } ∷ lines)) (entries_from rank later number comms (record { word = word; fields = fields } ∷ (lines ++ more)))
-line_later rank journal later number comms before (CallLine word) fields lines more are also right gone rest =
-    call_later rank journal later number comms before word fields lines more are also right gone rest
-line_later rank journal later number comms before (Report word) fields lines more are also right gone rest =
+line_later : (rank : ℕ) (journal later : Journal) (number : ℕ) (comms : RankComms) (before : List Line) (word : Word) (fields : List Field) (lines more : List Line) → journal.lines ≡ before ++ record { word = word; fields = fields } ∷ lines → later.lines ≡ before ++ record { word = word; fields = fields } ∷ (lines ++ more) → AreRight before (record { word = word; fields = fields } ∷ (lines ++ more)) → NoneOut journal.lines later.lines → ((n : ℕ) (c : RankComms) → AreLater (entries_from rank journal n c lines) (entries_from rank later n c (lines ++ more))) → AreLater (entries_from rank journal number comms (record { word = word; fields = fields } ∷ lines)) (entries_from rank later number comms (record { word = word; fields = fields } ∷ (lines ++ more)))
+line_later rank journal later number comms before (CallLine word) fields lines more are also right out rest =
+    call_later rank journal later number comms before word fields lines more are also right out rest
+line_later rank journal later number comms before (Report word) fields lines more are also right out rest =
     rest number_next (after_line comms (record { word = Report word; fields = fields }))
   where
     number_next : ℕ
     number_next = number + 1
 
-from_later : (rank : ℕ) (journal later : Journal) (number : ℕ) (comms : RankComms) (before lines more : List Line) → journal.lines ≡ before ++ lines → later.lines ≡ before ++ (lines ++ more) → AreRight before (lines ++ more) → NoneGone journal.lines later.lines → AreLater (entries_from rank journal number comms lines) (entries_from rank later number comms (lines ++ more))
-from_later rank journal later number comms before [] more are also right gone = tt
-from_later rank journal later number comms before (line ∷ lines) more are also right gone =
-    line_later rank journal later number comms before line.word line.fields lines more are also right gone
+from_later : (rank : ℕ) (journal later : Journal) (number : ℕ) (comms : RankComms) (before lines more : List Line) → journal.lines ≡ before ++ lines → later.lines ≡ before ++ (lines ++ more) → AreRight before (lines ++ more) → NoneOut journal.lines later.lines → AreLater (entries_from rank journal number comms lines) (entries_from rank later number comms (lines ++ more))
+from_later rank journal later number comms before [] more are also right out = tt
+from_later rank journal later number comms before (line ∷ lines) more are also right out =
+    line_later rank journal later number comms before line.word line.fields lines more are also right out
     (λ n c. from_later rank journal later n c (before ++ line ∷ []) lines more (are ∙ sym (append_assoc before (line ∷ []) lines))
-    (also ∙ sym (append_assoc before (line ∷ []) (lines ++ more))) right.1 gone)
+    (also ∙ sym (append_assoc before (line ∷ []) (lines ++ more))) right.1 out)
 
 first_empty : (lines more : List Line) → [] ≡ lines ++ more → lines ≡ []
 first_empty [] more is = refl
 first_empty (line ∷ lines) more is = let none : 0 ≡ length (line ∷ (lines ++ more)) = ap length is in absurd (omega (arith, none))
 
-in_later : (rank : ℕ) (o other : Option Journal) (more : List Line) → lines_in other ≡ lines_in o ++ more → ((journal : Journal) → other ≡ Some journal → AreRight [] journal.lines) → NoneGone (lines_in o) (lines_in other) → AreLater (entries_in rank o) (entries_in rank other)
-in_later rank None other more lines right gone = tt
-in_later rank (Some journal) None more lines right gone =
+in_later : (rank : ℕ) (o other : Option Journal) (more : List Line) → lines_in other ≡ lines_in o ++ more → ((journal : Journal) → other ≡ Some journal → AreRight [] journal.lines) → NoneOut (lines_in o) (lines_in other) → AreLater (entries_in rank o) (entries_in rank other)
+in_later rank None other more lines right out = tt
+in_later rank (Some journal) None more lines right out =
     subst (λ (ls : List Line). AreLater (entries_from rank journal 2 (comms_first rank) ls) []) (sym (first_empty journal.lines more lines)) tt
-in_later rank (Some journal) (Some later) more lines right gone =
+in_later rank (Some journal) (Some later) more lines right out =
     subst (λ (ls : List Line). AreLater (entries_in rank (Some journal)) (entries_from rank later 2 (comms_first rank) ls)) (sym lines)
-    (from_later rank journal later 2 (comms_first rank) [] journal.lines more refl lines (subst (λ (ls : List Line). AreRight [] ls) lines (right later refl)) gone)
+    (from_later rank journal later 2 (comms_first rank) [] journal.lines more refl lines (subst (λ (ls : List Line). AreRight [] ls) lines (right later refl)) out)
 
-pub entries_later : (run longer : Run) (rank : ℕ) → IsRead longer → HasMore run longer rank → NoneIsGone run longer rank → AreLater (entries_at run rank) (entries_at longer rank)
-entries_later run longer rank read has gone =
+pub entries_later : (run longer : Run) (rank : ℕ) → IsRead longer → HasMore run longer rank → NoneIsGone run longer rank → NoneIsMoved run longer rank → AreLater (entries_at run rank) (entries_at longer rank)
+entries_later run longer rank read has gone moved =
     in_later rank (journal_at run rank) (journal_at longer rank) has.more has.lines
-    (λ journal is. right_of_rank read.first read.texts longer read.is_read rank journal is) gone
+    (λ journal is. right_of_rank read.first read.texts longer read.is_read rank journal is) (λ request known. (gone request known, moved request known))

@@ -1,13 +1,11 @@
 -- What a list has so far stays when its journal goes on.
-use Rattle.std.proofs.Common.{◌≡◌, ◌⊎◌, ℕ, ◌&&◌, ◌==◌, not, Bool, true, false, Option, Some, None, is_none, if◌then◌else◌, List, [], ◌∷◌, ◌++◌, length, refl, sym, ap, subst, ◌∙◌, append_assoc, append-nil, inl, inr}
-use Rattle.std.specs.Prelude.{⊤}
+use Rattle.std.proofs.Common.{◌≡◌, ◌⊎◌, ℕ, ◌&&◌, not, Bool, true, false, Option, Some, None, is_none, if◌then◌else◌, List, [], ◌∷◌, ◌++◌, length, refl, sym, ap, subst, ◌∙◌, append_assoc, append-nil, inl, inr}
 use Rattle.std.specs.List.{list_all}
 use Rattle.std.specs.Option.{option_map_or}
-use Rattle.std.proofs.lemmas.Bool.{and_parts, cases_Bool, false≢true}
+use Rattle.std.proofs.lemmas.Bool.{and_parts, false≢true}
 use Rattle.std.proofs.lemmas.Option.{none-some}
 use Rattle.mpicall.specs.Word.{or_else}
 use Rattle.mpicall.specs.declared.call.Call.{Call}
-use Rattle.mpicall.specs.declared.call.Call.TheVariants.{Finalize, Open}
 use Rattle.mpicall.specs.declared.call.Mode.TheVariants.{Standard}
 use Rattle.journals.specs.Lines.{Line}
 use Rattle.journals.specs.Known.{has_report, report_of}
@@ -15,28 +13,29 @@ use Rattle.journals.specs.declared.word.ReportWord.TheVariants as report
 use Rattle.closing.specs.Called.{Called, Sent, Awaited, StartsExchange, Duplicates, Splits, Makes}
 use Rattle.closing.specs.Keys.{Key}
 use Rattle.closing.specs.RankComms.{Wave, makes_comm}
-use Rattle.closing.specs.Entries.{Run, Placed, entries_at}
-use Rattle.closing.specs.Numbers.{named_key, number_of, preface_of}
+use Rattle.closing.specs.Entries.{Run, Placed, entries_at, is_window}
+use Rattle.closing.specs.Numbers.{named_key, number_of}
 use Rattle.closing.specs.Reported.{Message, is_gone}
 use Rattle.closing.specs.Steps.{Own, Step, Does, Starts, WaitsForLate, Written, Progress, plain as written, after_step, after_steps}
 use Rattle.closing.specs.Endings.{breaks_off, can_be, first_of, is_unknown, is_unreported, lacks_number, message_at, needs_number, number_at, why_at}
-use Rattle.closing.specs.Entry.{Choice, Here, here_at, start_send, start_receive, brings, maker, starts, knowing, on_comm, is_past, steps_by, steps_of}
-use Rattle.closing.specs.Recording.{Listed, ended, is_end, steps_before, outcome_by, outcome_in, go_on, list_from, progress_first, whole_list}
-use Rattle.closing.specs.Sinks.{Outcome, GoesOn, Ends}
+use Rattle.closing.specs.Entry.{Choice, Here, here_at, start_send, start_receive, brings, maker, starts, knowing, on_comm, steps_by, steps_of}
+use Rattle.closing.specs.Recording.{Listed, is_end, steps_before, go_on, list_from, progress_first, whole_list}
+use Rattle.closing.specs.Sinks.{Outcome}
 use Rattle.closing.specs.declared.choice.Calls.TheVariants.{Strict}
 use Rattle.closing.specs.declared.choice.Unreported.TheVariants as unreported
 use Rattle.closing.specs.declared.why.Why.{Why}
 use Rattle.closing.specs.declared.why.Why.TheVariants.{NeverCameBack, NeverReported, Failed, NoNumber, CannotBe}
-use Rattle.lawful.specs.Longer.{IsKept, AllKept, Begins, BeginsButLast, Stays, is_maker, is_silent, last_is_silent, WhatIsToldStays}
+use Rattle.lawful.specs.Longer.{IsKept, AllKept, Begins, BeginsButLast, Stays, last_is_silent, WhatIsToldStays}
 use Rattle.lawful.proofs.SinkCases.{in_as_of}
 use Rattle.lawful.proofs.NoSinks.{NoSinks, steps_none, steps_not}
 use Rattle.lawful.proofs.EndLemmas.{entry_list, end_list, first_none, goes_on, next_of, none_of}
 use Rattle.lawful.proofs.WalkLemmas.{breaks_none}
 use Rattle.lawful.proofs.SoFarLemmas.{grows_both, steps_grow, list_grows}
 use Rattle.lawful.proofs.NewNumbers.{Numbers}
-use Rattle.lawful.proofs.LongerLemmas.{StaysOf, More, with_more, IsOver, IsLater, AreLater, entries_later}
-use Rattle.lawful.proofs.LongerSteps.{Parts, parts_of, number_same, can_stay, why_stays, steps_stay}
+use Rattle.lawful.proofs.LongerLemmas.{StaysOf, More, with_more, IsOver, AreLater, entries_later}
+use Rattle.lawful.proofs.LongerSteps.{parts_of, number_same, can_stay, why_stays, steps_stay}
 use Rattle.lawful.proofs.LongerWaves.{waves_same}
+use Rattle.lawful.proofs.LongerWindows.{window_still}
 use Rattle.lawful.proofs.LongerMakers.{over_maker, told_maker, maker_makes}
 
 -- both runs have the same of communicators
@@ -45,6 +44,7 @@ record Both (run longer : Run) (choice : Choice) : Type 0 where
   ranks : length longer ≡ length run
   numbers : (key : Key) → number_of longer key ≡ number_of run key
   waves : (wave : Wave) → brings longer wave ≡ brings run wave
+  windows : is_window run ≡ true → is_window longer ≡ true
 
 -- ---- The next entry ----
 
@@ -128,8 +128,8 @@ record Unreported (run longer : Run) (choice : Choice) (placed : Placed) (it : M
 
 exchange_parts : (run : Run) (placed : Placed) (request received : ℕ) (sent : Sent) (awaited : Awaited) → placed.called ≡ StartsExchange request received sent awaited → why_at run placed ≡ Some NeverReported → (has_report report.Failed placed.entry ≡ false) × (not (can_be run placed) ≡ false) × (lacks_number run placed ≡ false) × (is_unreported placed placed.called ≡ true)
 exchange_parts run placed request received sent awaited is why =
-    reported_parts (breaks_off placed.called) (has_report report.Failed placed.entry) (not (can_be run placed)) (lacks_number run placed)
-    (is_unreported placed placed.called) (is_unknown placed placed.called) (ap (λ (it : Called). breaks_off it) is) why
+    reported_parts (breaks_off (is_window run) placed.called) (has_report report.Failed placed.entry) (not (can_be run placed)) (lacks_number run placed)
+    (is_unreported placed placed.called) (is_unknown placed placed.called) (ap (λ (it : Called). breaks_off (is_window run) it) is) why
 
 exchange_later : (run longer : Run) (choice : Choice) (placed : Placed) (it : More placed) (request received : ℕ) (sent : Sent) (awaited : Awaited) → Both run longer choice → IsKept run longer placed (with_more placed it) → placed.called ≡ StartsExchange request received sent awaited → why_at run placed ≡ Some NeverReported → Unreported run longer choice placed it
 exchange_later run longer choice placed it request received sent awaited both kept is why =
@@ -149,7 +149,7 @@ exchange_later run longer choice placed it request received sent awaited both ke
           ∙ append-nil (send_if comm request sent (is_gone placed.journal.lines request));
       later = exchange_steps longer choice other comm request received sent awaited is (same ∙ number.1)
           ∙ ap (λ (b : Bool). send_if comm request sent b ++ receive_of longer choice other comm received) gone;
-      why = ap (λ (o : Option Why). or_else o (first_of ((has_report report.Failed it.entry, Failed) ∷ (not (can_be longer other), CannotBe) ∷ (lacks_number longer other, NoNumber) ∷ (is_unreported other placed.called, NeverReported) ∷ (is_unknown other placed.called, NeverCameBack) ∷ []))) (ap (λ (one : Called). breaks_off one) is)
+      why = ap (λ (o : Option Why). or_else o (first_of ((has_report report.Failed it.entry, Failed) ∷ (not (can_be longer other), CannotBe) ∷ (lacks_number longer other, NoNumber) ∷ (is_unreported other placed.called, NeverReported) ∷ (is_unknown other placed.called, NeverCameBack) ∷ []))) (ap (λ (one : Called). breaks_off (is_window longer) one) is)
           ∙ reported_by (has_report report.Failed it.entry) (not (can_be longer other)) (lacks_number longer other) (is_unreported other placed.called) (is_unknown other placed.called)
           (kept.failed parts.0) (can_stay run longer placed it kept parts.1)
           (ap (λ (o : Option ℕ). needs_number placed.called && is_none o) same ∙ parts.2) (ap (λ (one : Called). is_unknown other one) is);
@@ -213,13 +213,13 @@ silent_begins : (run longer : Run) (choice : Choice) (placed : Placed) (it : Mor
 silent_begins run longer choice placed it others progress both none kept why makes_one =
     let other = with_more placed it in
     let ends = maker_no_end placed.called makes_one in
-    let parts = parts_of (has_report report.Failed placed.entry) (not (can_be run placed)) (lacks_number run placed) (is_unreported placed placed.called) (is_unknown placed placed.called) (breaks_none placed.called _ why) in
+    let parts = parts_of (has_report report.Failed placed.entry) (not (can_be run placed)) (lacks_number run placed) (is_unreported placed placed.called) (is_unknown placed placed.called) (breaks_none (is_window run) placed.called _ why) in
     let needs : is_none (number_at run placed) ≡ false = ap (λ (b : Bool). b && is_none (number_at run placed)) (sym (maker_needs placed.called makes_one)) ∙ parts.numbered in
     let number = some_number (number_at run placed) needs in
     let comm = number.0 in
     let now = next_if run choice placed [] progress false none why ends
     ∙ ap (λ (steps : List Step). list_from run choice (after_steps progress placed.line steps) []) (maker_steps run choice placed comm number.1 makes_one) in
-    let next = next_if longer choice other others progress false none (why_stays run longer placed it both.numbers kept why) ends
+    let next = next_if longer choice other others progress false none (why_stays run longer placed it both.numbers both.windows kept why) ends
     ∙ ap (λ (steps : List Step). list_from longer choice (after_steps progress placed.line steps) others)
     (maker_steps longer choice other comm (number_same run longer (named_key placed) both.numbers ∙ number.1) makes_one) in
     let made : Written = record { call = maker run placed comm; line = placed.line; starts = None } in
@@ -272,15 +272,15 @@ going_stays run longer choice placed it entries others progress both none kept w
         let records = (after_steps progress placed.line (WaitsForLate ∷ [])).records in
         inl (begins_as (list_from run choice progress (placed ∷ entries)).records (list_from longer choice progress (with_more placed it ∷ others)).records records records
         (ap (λ (list : Listed). list.records) (next_if run choice placed entries progress true none why ends))
-        (ap (λ (list : Listed). list.records) (next_if longer choice (with_more placed it) others progress true none (why_stays run longer placed it both.numbers kept why) ends))
+        (ap (λ (list : Listed). list.records) (next_if longer choice (with_more placed it) others progress true none (why_stays run longer placed it both.numbers both.windows kept why) ends))
         (same_begins records))
     by_end false ends =
-        let parts = parts_of (has_report report.Failed placed.entry) (not (can_be run placed)) (lacks_number run placed) (is_unreported placed placed.called) (is_unknown placed placed.called) (breaks_none placed.called _ why) in
+        let parts = parts_of (has_report report.Failed placed.entry) (not (can_be run placed)) (lacks_number run placed) (is_unreported placed placed.called) (is_unknown placed placed.called) (breaks_none (is_window run) placed.called _ why) in
         let steps = steps_of run choice placed in
         let next = after_steps progress placed.line steps in
         stays_next run longer choice placed entries _ _ (list_from run choice next entries).records (list_from longer choice next others).records
         (ap (λ (list : Listed). list.records) (next_if run choice placed entries progress false none why ends))
-        (ap (λ (list : Listed). list.records) (next_if longer choice (with_more placed it) others progress false none (why_stays run longer placed it both.numbers kept why) ends
+        (ap (λ (list : Listed). list.records) (next_if longer choice (with_more placed it) others progress false none (why_stays run longer placed it both.numbers both.windows kept why) ends
         ∙ ap (λ (all : List Step). list_from longer choice (after_steps progress placed.line all) others)
         (steps_stay run longer choice placed it both.strict both.numbers parts.told parts.known same)))
         (rest next (steps_none progress placed.line steps (steps_not run choice placed) none))
@@ -346,12 +346,13 @@ first_with calls = record { records = written 0 calls; active = []; late = [] }
 
 pub what_is_told_stays : WhatIsToldStays
 what_is_told_stays run longer choice rank strict mode read read_longer long kept =
-    let all = λ (other : ℕ). entries_later run longer other read_longer (long.more other) (long.none_gone other) in
+    let all = λ (other : ℕ). entries_later run longer other read_longer (long.more other) (long.none_gone other) (long.none_moved other) in
     let both : Both run longer choice = record {
       strict = strict;
       ranks = long.ranks;
       numbers = long.numbers;
       waves = waves_same run longer read long.ranks long.numbers all;
+      windows = window_still run longer read_longer long.ranks long.more;
     } in
     subst (λ (progress : Progress). Stays (entries_at run rank) (whole_list run choice rank).records (list_from longer choice progress (entries_at longer rank)).records)
     (sym (ap (λ (calls : List Call). first_with calls) (long.prefaces rank)))

@@ -1,5 +1,5 @@
 -- A call that makes communicators stands for the same when its journal goes on, but where none is reported.
-use Rattle.std.proofs.Common.{◌≡◌, ℕ, ◌&&◌, ◌==◌, not, Bool, true, false, Option, Some, None, is_none, if◌then◌else◌, List, [], ◌∷◌, length, refl, sym, ap, ◌∙◌, eq-eqb}
+use Rattle.std.proofs.Common.{◌≡◌, ℕ, ◌&&◌, ◌==◌, not, Bool, true, false, Option, Some, None, if◌then◌else◌, List, [], length, refl, sym, ap, ◌∙◌, eq-eqb}
 use Rattle.std.specs.Prelude.{pos, option_map, option_and_then}
 use Rattle.std.specs.List.{position_or_len}
 use Rattle.std.specs.Option.{option_map_or}
@@ -12,13 +12,13 @@ use Rattle.journals.specs.Lines.{Line}
 use Rattle.journals.specs.Entries.{Entry, group_in}
 use Rattle.journals.specs.Known.{report_of}
 use Rattle.journals.specs.declared.word.ReportWord.TheVariants as report
-use Rattle.closing.specs.Called.{Called, Duplicates, Splits, Makes}
+use Rattle.closing.specs.Called.{Called, Splits, Makes}
 use Rattle.closing.specs.Keys.{Key, group_of_key}
 use Rattle.closing.specs.RankComms.{Wave, makes_comm, made_in}
 use Rattle.closing.specs.Entries.{Run, Placed}
 use Rattle.closing.specs.Made.{wave_at, may_give, made_with, reported_group, reported_key, others_key, inferred_key, key_made}
 use Rattle.closing.specs.Numbers.{named_key, number_of}
-use Rattle.closing.specs.Entry.{brings, parent_rank, parent_group, colour_of, split_key, giving_line, bare_line, maker_by, maker}
+use Rattle.closing.specs.Entry.{brings, parent_rank, parent_group, split_key, giving_line, bare_line, maker_by, maker}
 use Rattle.lawful.specs.Longer.{is_maker}
 use Rattle.lawful.proofs.LongerLemmas.{More, with_more, IsOver}
 use Rattle.lawful.proofs.LongerSteps.{number_same}

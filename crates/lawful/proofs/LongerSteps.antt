@@ -1,40 +1,37 @@
 -- What an entry stands for stays when its journal goes on.
-use Rattle.std.proofs.Common.{◌≡◌, ℕ, ◌&&◌, ◌||◌, ◌==◌, not, Bool, true, false, Option, Some, None, is_some, is_none, if◌then◌else◌, List, [], ◌∷◌, ◌++◌, length, filter, refl, sym, ap, subst, ◌∙◌}
-use Rattle.std.specs.Prelude.{⊤, pos, option_map, option_and_then}
-use Rattle.std.specs.List.{list_any, position_or_len}
+use Rattle.std.proofs.Common.{◌≡◌, ℕ, ◌&&◌, ◌||◌, not, Bool, true, false, Option, Some, None, is_some, is_none, if◌then◌else◌, List, [], ◌∷◌, ◌++◌, filter, refl, sym, ap, subst, ◌∙◌}
+use Rattle.std.specs.Prelude.{⊤, option_and_then}
+use Rattle.std.specs.List.{list_any}
 use Rattle.std.specs.Option.{option_map_or}
-use Rattle.std.specs.Str.{bytes_eq}
 use Rattle.std.proofs.lemmas.Bool.{false≢true}
 use Rattle.std.proofs.lemmas.List.Folds.{list_any-append}
 use Rattle.std.proofs.lemmas.Option.{none-some}
 use Rattle.mpicall.specs.Word.{or_else}
 use Rattle.mpicall.specs.declared.call.Call.{Call}
-use Rattle.mpicall.specs.declared.call.Call.TheVariants.{Dup, Split, Coll}
 use Rattle.mpicall.specs.declared.call.Mode.TheVariants.{Standard}
 use Rattle.mpicall.specs.declared.call.Kind.TheVariants as kind
 use Rattle.journals.specs.Lines.{Line}
-use Rattle.journals.specs.Entries.{Entry, group_in}
-use Rattle.journals.specs.Known.{chosen_of, has_report, report_of, requests_in}
+use Rattle.journals.specs.Entries.{Entry}
+use Rattle.journals.specs.Known.{has_report, report_of, requests_in}
 use Rattle.journals.specs.declared.word.ReportWord.TheVariants as report
-use Rattle.closing.specs.Called.{Called, Awaited, Sends, StartsSend, Receives, StartsReceive, Exchanges, StartsExchange, Probes, ProbesMatching, ReceivesMatched, Waits, Tests, WaitsAny, WaitsSome, Cancels, Collects, StartsCollective, Duplicates, StartsDuplicate, Splits, Makes, MakesOfGroup}
-use Rattle.closing.specs.Keys.{Key, group_of_key}
-use Rattle.closing.specs.RankComms.{Wave, makes_comm, made_in}
-use Rattle.closing.specs.Entries.{Run, Placed}
-use Rattle.closing.specs.Made.{wave_at, may_give, made_with, reported_group, reported_key, others_key, inferred_key, key_made}
+use Rattle.closing.specs.Called.{Called, Awaited, StartsSend, Receives, StartsReceive, Exchanges, StartsExchange, Probes, ProbesMatching, ReceivesMatched, Waits, Tests, WaitsAny, WaitsSome, Cancels, StartsCollective, Duplicates, StartsDuplicate, Splits, Makes, Cuts}
+use Rattle.closing.specs.Keys.{Key}
+use Rattle.closing.specs.RankComms.{makes_comm}
+use Rattle.closing.specs.Entries.{Run, Placed, is_window}
 use Rattle.closing.specs.Numbers.{named_key, number_of}
-use Rattle.closing.specs.Reported.{Message, done_of, got_in, is_gone, is_kept, is_settled, message_in, message_of, says_gone, says_kept}
+use Rattle.closing.specs.Reported.{Message, done_of, got_in, from_nobody, unless_moved, is_gone, is_left_out, is_kept, is_settled, message_in, message_of, says_gone, says_kept}
 use Rattle.closing.specs.Steps.{Id, Own, Step, Does, Starts, WaitsForAll, PutsOff}
 use Rattle.closing.specs.Endings.{awaited_at, breaks_off, can_be, chose_none, first_of, is_unknown, is_unreported, lacks_number, message_at, needs_number, number_at, why_at}
-use Rattle.closing.specs.Entry.{Choice, Here, here_at, send, start_send, receive, start_receive, exchange, probe, start_collective, kind_of, brings, parent_rank, split_key, giving_line, bare_line, maker_by, maker, id_of, is_of_send, ids_of, wait_for_all, pass_test, passes_tests, test, chosen, wait_for_one, wait_for_any, unless_past, starts, knowing, on_comm, on_none, is_past, steps_by, steps_of}
+use Rattle.closing.specs.Entry.{Choice, Here, start_send, start_receive, start_collective, kind_of, maker, id_of, is_of_send, ids_of, wait_for_all, pass_test, passes_tests, test, chosen, wait_for_one, wait_for_any, unless_past, starts, knowing, on_comm, on_none, is_past, steps_by, steps_of}
 use Rattle.closing.specs.declared.choice.Calls.TheVariants.{Strict}
 use Rattle.closing.specs.declared.why.Why.{Why}
-use Rattle.closing.specs.declared.why.Why.TheVariants.{NeverCameBack, NeverReported, Failed, NoNumber, CannotBe}
+use Rattle.closing.specs.declared.why.Why.TheVariants.{NeverCameBack, NeverReported, Failed, NoNumber, CannotBe, Cut}
 use Rattle.lawful.specs.Longer.{IsKept}
 use Rattle.lawful.proofs.NewNumbers.{AllOf, Numbers}
 use Rattle.lawful.proofs.WalkLemmas.{breaks_none}
 use Rattle.lawful.proofs.PlainSteps.{strict_past}
 use Rattle.lawful.proofs.SoFarLemmas.{done_append, message_more}
-use Rattle.lawful.proofs.LongerLemmas.{StaysOf, KeepsReports, More, with_more, IsOver}
+use Rattle.lawful.proofs.LongerLemmas.{StaysOf, out_stays, KeepsReports, More, with_more}
 
 -- ---- Messages ----
 
@@ -45,9 +42,9 @@ StillAwaits one other = ⊥
 
 abbrev pub awaited_by : Entry → List Line → Called → Option (Awaited × Option Message)
 awaited_by entry lines (Receives awaited) = Some (awaited, got_in entry)
-awaited_by entry lines (StartsReceive request awaited) = Some (awaited, done_of lines request)
+awaited_by entry lines (StartsReceive request awaited) = Some (unless_moved lines request awaited, done_of lines request)
 awaited_by entry lines (Exchanges sent awaited) = Some (awaited, got_in entry)
-awaited_by entry lines (StartsExchange request received sent awaited) = Some (awaited, done_of lines received)
+awaited_by entry lines (StartsExchange request received sent awaited) = Some (unless_moved lines received awaited, done_of lines received)
 awaited_by entry lines (Probes awaited) = Some (awaited, got_in entry)
 awaited_by entry lines (ProbesMatching message awaited) = Some (awaited, got_in entry)
 awaited_by entry lines it = None
@@ -68,14 +65,17 @@ got_kept entry other it keeps h = of_line (report_of report.Got entry) refl h
     of_line None is e = absurd (none-some it e)
     of_line (Some line) is e = ap (λ (o : Option Line). option_and_then (λ (one : Line). message_in one.fields) o) (keeps report.Got line is) ∙ e
 
-still_awaits : (entry other : Entry) (lines later : List Line) (it : Called) → KeepsReports entry other → ((request : ℕ) (m : Message) → done_of lines request ≡ Some m → done_of later request ≡ Some m) → StillAwaits (awaited_by entry lines it) (awaited_by other later it)
-still_awaits entry other lines later (Receives awaited) keeps done = (refl, λ m h. got_kept entry other m keeps h)
-still_awaits entry other lines later (StartsReceive request awaited) keeps done = (refl, λ m h. done request m h)
-still_awaits entry other lines later (Exchanges sent awaited) keeps done = (refl, λ m h. got_kept entry other m keeps h)
-still_awaits entry other lines later (StartsExchange request received sent awaited) keeps done = (refl, λ m h. done received m h)
-still_awaits entry other lines later (Probes awaited) keeps done = (refl, λ m h. got_kept entry other m keeps h)
-still_awaits entry other lines later (ProbesMatching message awaited) keeps done = (refl, λ m h. got_kept entry other m keeps h)
-still_awaits entry other lines later _ keeps done = tt
+pub moved_stays : (lines later : List Line) (request : ℕ) (awaited : Awaited) → StaysOf lines later request → unless_moved later request awaited ≡ unless_moved lines request awaited
+moved_stays lines later request awaited is = ap (λ (b : Bool). if b then from_nobody awaited else awaited) is.moved
+
+still_awaits : (entry other : Entry) (lines later : List Line) (it : Called) → Numbers (StaysOf lines later) (StaysOf lines later) (StaysOf lines later) it → KeepsReports entry other → ((request : ℕ) (m : Message) → done_of lines request ≡ Some m → done_of later request ≡ Some m) → StillAwaits (awaited_by entry lines it) (awaited_by other later it)
+still_awaits entry other lines later (Receives awaited) all keeps done = (refl, λ m h. got_kept entry other m keeps h)
+still_awaits entry other lines later (StartsReceive request awaited) all keeps done = (moved_stays lines later request awaited all, λ m h. done request m h)
+still_awaits entry other lines later (Exchanges sent awaited) all keeps done = (refl, λ m h. got_kept entry other m keeps h)
+still_awaits entry other lines later (StartsExchange request received sent awaited) all keeps done = (moved_stays lines later received awaited all.1, λ m h. done received m h)
+still_awaits entry other lines later (Probes awaited) all keeps done = (refl, λ m h. got_kept entry other m keeps h)
+still_awaits entry other lines later (ProbesMatching message awaited) all keeps done = (refl, λ m h. got_kept entry other m keeps h)
+still_awaits entry other lines later _ all keeps done = tt
 
 abbrev message_by : Option (Awaited × Option Message) → Option Message
 message_by o = option_and_then (λ it. message_of it.0 it.1) o
@@ -103,7 +103,7 @@ message_kept placed it known =
     let one = awaited_by placed.entry placed.journal.lines placed.called in
     let other = awaited_by it.entry it.later.lines placed.called in
     ap (λ (o : Option (Awaited × Option Message)). message_by o) next
-    ∙ messages_stay one other (still_awaits placed.entry it.entry placed.journal.lines it.later.lines placed.called it.reports (done_kept placed it))
+    ∙ messages_stay one other (still_awaits placed.entry it.entry placed.journal.lines it.later.lines placed.called it.numbers it.reports (done_kept placed it))
     (subst (λ (o : Option (Awaited × Option Message)). is_none (message_by o) ≡ false) now known)
     ∙ sym (ap (λ (o : Option (Awaited × Option Message)). message_by o) now)
 
@@ -200,6 +200,12 @@ parts_of false false false true e h = absurd (none-some NeverReported (sym h))
 parts_of false false false false true h = absurd (none-some NeverCameBack (sym h))
 parts_of false false false false false h = record { well = refl; can = refl; numbered = refl; told = refl; known = refl }
 
+-- a run that is a window goes on as one
+pub breaks_kept : (now later : Bool) (it : Called) → (now ≡ true → later ≡ true) → breaks_off now it ≡ None → breaks_off later it ≡ None
+breaks_kept true later Cuts keeps h = ap (λ (b : Bool). if b then None else Some Cut) (keeps refl)
+breaks_kept false later Cuts keeps h = absurd (none-some Cut (sym h))
+breaks_kept now later _ keeps h = h
+
 breaks_first : (o rest : Option Why) → or_else o rest ≡ None → o ≡ None
 breaks_first None rest h = refl
 breaks_first (Some why) rest h = h
@@ -214,12 +220,12 @@ number_same run longer (Some key) same = same key
 pub can_stay : (run longer : Run) (placed : Placed) (it : More placed) → IsKept run longer placed (with_more placed it) → not (can_be run placed) ≡ false → not (can_be longer (with_more placed it)) ≡ false
 can_stay run longer placed it kept h = ap (λ (b : Bool). not b) (kept.can (not_false (can_be run placed) h))
 
-pub why_stays : (run longer : Run) (placed : Placed) (it : More placed) → ((key : Key) → number_of longer key ≡ number_of run key) → IsKept run longer placed (with_more placed it) → why_at run placed ≡ None → why_at longer (with_more placed it) ≡ None
-why_stays run longer placed it numbers kept why =
+pub why_stays : (run longer : Run) (placed : Placed) (it : More placed) → ((key : Key) → number_of longer key ≡ number_of run key) → (is_window run ≡ true → is_window longer ≡ true) → IsKept run longer placed (with_more placed it) → why_at run placed ≡ None → why_at longer (with_more placed it) ≡ None
+why_stays run longer placed it numbers windows kept why =
     let other = with_more placed it in
-    let parts = parts_of (has_report report.Failed placed.entry) (not (can_be run placed)) (lacks_number run placed) (is_unreported placed placed.called) (is_unknown placed placed.called) (breaks_none placed.called _ why) in
-    none_by (breaks_off placed.called) (has_report report.Failed it.entry) (not (can_be longer other)) (lacks_number longer other) (is_unreported other placed.called) (is_unknown other placed.called)
-    (breaks_first (breaks_off placed.called) _ why) (kept.failed parts.well) (can_stay run longer placed it kept parts.can)
+    let parts = parts_of (has_report report.Failed placed.entry) (not (can_be run placed)) (lacks_number run placed) (is_unreported placed placed.called) (is_unknown placed placed.called) (breaks_none (is_window run) placed.called _ why) in
+    none_by (breaks_off (is_window longer) placed.called) (has_report report.Failed it.entry) (not (can_be longer other)) (lacks_number longer other) (is_unreported other placed.called) (is_unknown other placed.called)
+    (breaks_kept (is_window run) (is_window longer) placed.called windows (breaks_first (breaks_off (is_window run) placed.called) _ why)) (kept.failed parts.well) (can_stay run longer placed it kept parts.can)
     (ap (λ (o : Option ℕ). needs_number placed.called && is_none o) (number_same run longer (named_key placed) numbers) ∙ parts.numbered)
     (told_kept placed it placed.called it.numbers parts.told) (unknown_kept placed it placed.called parts.known)
 
@@ -243,19 +249,19 @@ filter_all K f [] all = tt
 filter_all K f (request ∷ requests) all = put_all K (f request) request (filter f requests) all.0 (filter_all K f requests all.1)
 
 abbrev id_put : (ℕ → Id) → ℕ → Bool → List Id → List Id
-id_put ids request gone others = if gone then others else ids request ∷ others
+id_put ids request out others = if out then others else ids request ∷ others
 
-ids_put : (lines : List Line) (request : ℕ) (requests : List ℕ) (b : Bool) → is_gone lines request ≡ b → ids_of lines (request ∷ requests) ≡ id_put (id_of lines) request b (ids_of lines requests)
+ids_put : (lines : List Line) (request : ℕ) (requests : List ℕ) (b : Bool) → is_left_out lines request ≡ b → ids_of lines (request ∷ requests) ≡ id_put (id_of lines) request b (ids_of lines requests)
 ids_put lines request requests true is = rw is refl
 ids_put lines request requests false is = rw is refl
 
 pub ids_stay : (lines later : List Line) (requests : List ℕ) → AllOf (StaysOf lines later) requests → ids_of later requests ≡ ids_of lines requests
 ids_stay lines later [] all = refl
 ids_stay lines later (request ∷ requests) all =
-    ids_put later request requests (is_gone lines request) all.0.gone
-    ∙ ap (λ (ids : List Id). id_put (id_of later) request (is_gone lines request) ids) (ids_stay lines later requests all.1)
-    ∙ ap (λ (id : Id). if is_gone lines request then ids_of lines requests else id ∷ ids_of lines requests) all.0.id
-    ∙ sym (ids_put lines request requests (is_gone lines request) refl)
+    ids_put later request requests (is_left_out lines request) (out_stays lines later request all.0)
+    ∙ ap (λ (ids : List Id). id_put (id_of later) request (is_left_out lines request) ids) (ids_stay lines later requests all.1)
+    ∙ ap (λ (id : Id). if is_left_out lines request then ids_of lines requests else id ∷ ids_of lines requests) all.0.id
+    ∙ sym (ids_put lines request requests (is_left_out lines request) refl)
 
 waits_stay : (lines later : List Line) (requests : List ℕ) → AllOf (StaysOf lines later) requests → wait_for_all later requests ≡ wait_for_all lines requests
 waits_stay lines later requests all = ap (λ (ids : List Id). WaitsForAll ids ∷ []) (ids_stay lines later requests all)

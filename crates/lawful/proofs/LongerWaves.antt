@@ -8,7 +8,7 @@ use Rattle.std.proofs.lemmas.List.Folds.{list_any-append}
 use Rattle.std.proofs.lemmas.Option.{none-some, same_Some}
 use Rattle.mpicall.specs.declared.limits.TheConstants.{GREATEST_COMM}
 use Rattle.journals.specs.Lines.{Line}
-use Rattle.journals.specs.Entries.{Entry, group_in, listing_of}
+use Rattle.journals.specs.Entries.{group_in, listing_of}
 use Rattle.journals.specs.Journal.{Journal}
 use Rattle.journals.specs.Known.{is_report, report_of}
 use Rattle.journals.specs.declared.field.Field.{Field}
@@ -20,7 +20,7 @@ use Rattle.journals.specs.declared.word.ReportWord.{ReportWord}
 use Rattle.journals.specs.declared.word.ReportWord.TheVariants as report
 use Rattle.closing.specs.Called.{Called, MakesOfGroup, called}
 use Rattle.closing.specs.FitComms.{comm_is_numbered, comms_are_numbered}
-use Rattle.closing.specs.Keys.{Key, World, Alone, Made, Duplicated, OfGroup, Apart, same_key, has_member, is_key_among, each_once}
+use Rattle.closing.specs.Keys.{Key, Made, Duplicated, same_key, has_member, is_key_among, each_once}
 use Rattle.closing.specs.RankComms.{Wave, RankComms, comms_first, comms_after, key_next, makes_comm, wave_next, made_in, duplicated_in, under, with_key, with_made, with_some, after_call, after_report, after_line, after_lines}
 use Rattle.closing.specs.Entries.{Run, Placed, journal_at, lines_in, entries_from, entries_in, lines_at, entries_at, all_entries, ranks_of}
 use Rattle.closing.specs.Made.{wave_at, is_wave, may_give, made_with, reported_key, keys_of_wave, others_key, inferred_key, keys_at}

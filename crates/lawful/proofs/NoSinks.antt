@@ -11,7 +11,7 @@ use Rattle.journals.specs.Lines.{Line}
 use Rattle.journals.specs.Known.{has_report, report_of, requests_in}
 use Rattle.journals.specs.declared.word.ReportWord.TheVariants as report
 use Rattle.closing.specs.Called.{Called, StartsSend, Receives, StartsReceive, Exchanges, StartsExchange, Probes, ProbesMatching, ReceivesMatched, Waits, Tests, WaitsAny, WaitsSome, StartsCollective, StartsDuplicate}
-use Rattle.closing.specs.Entries.{Run, Placed, journal_at, entries_at}
+use Rattle.closing.specs.Entries.{Run, Placed, journal_at, entries_at, is_window}
 use Rattle.closing.specs.Numbers.{preface_of}
 use Rattle.closing.specs.Reported.{is_gone}
 use Rattle.closing.specs.Steps.{Id, Own, Whole, ReceiveHalf, Sink, Written, Progress, Step, Does, Starts, WaitsForAll, WaitsForOne, PutsOff, WaitsForLate, number_in, numbers_of, waits_for, wait_for_one, wait_one, plain, after_step, after_steps}
@@ -49,7 +49,7 @@ clear_of run placed false false false false false first third fourth fifth h = r
 pub clear : (run : Run) (placed : Placed) → why_at run placed ≡ None → Clear run placed
 clear run placed h =
     clear_of run placed (has_report report.Failed placed.entry) (not (can_be run placed)) (lacks_number run placed) (is_unreported placed placed.called)
-    (is_unknown placed placed.called) refl refl refl refl (breaks_none placed.called _ h)
+    (is_unknown placed placed.called) refl refl refl refl (breaks_none (is_window run) placed.called _ h)
 
 -- ---- Records without sinks ----
 

@@ -11,7 +11,7 @@ use Rattle.journals.specs.Known.{chosen_of, report_of, requests_in}
 use Rattle.journals.specs.declared.word.ReportWord.TheVariants as report
 use Rattle.closing.specs.Called.{Called, Sent, Sends, StartsSend, Receives, StartsReceive, Exchanges, StartsExchange, Probes, ProbesMatching, ReceivesMatched, Waits, Tests, WaitsAny, WaitsSome, Collects, StartsCollective, Duplicates, StartsDuplicate, Splits, Makes, MakesOfGroup}
 use Rattle.closing.specs.Entries.{Run, Placed}
-use Rattle.closing.specs.Reported.{Message, is_gone}
+use Rattle.closing.specs.Reported.{Message, is_gone, is_left_out}
 use Rattle.closing.specs.Steps.{Id, Own, Whole, ReceiveHalf, Step, Does, Starts, WaitsForAll, WaitsForOne, PutsOff, WaitsForLate}
 use Rattle.closing.specs.Entry.{Choice, Here, send, start_send, receive, start_receive, exchange, probe, start_collective, kind_of, is_past, here_at, does, does_both, starts, knowing, unless_past, on_comm, on_none, steps_by, ids_of, is_of_send, matched_message, wait_for_all, pass_test, passes_tests, chosen, wait_for_one, wait_for_any}
 use Rattle.lawful.proofs.PassLemmas.{AreSteps}
@@ -123,8 +123,8 @@ NoneStands lines request (other ∷ others) = ((stands_for lines other == reques
 not_in : (lines : List Line) (request : ℕ) (others : List ℕ) → NoneStands lines request others → NotIn request (ids_of lines others)
 not_in lines request [] none = tt
 not_in lines request (other ∷ others) none =
-    elim (cases_Bool (is_gone lines other)) [
-      | inl gone ↦ rw gone (not_in lines request others none.1)
+    elim (cases_Bool (is_left_out lines other)) [
+      | inl out ↦ rw out (not_in lines request others none.1)
       | inr stays ↦ rw stays (none.0, not_in lines request others none.1)
     ]
 

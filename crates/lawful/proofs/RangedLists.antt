@@ -24,7 +24,7 @@ use Rattle.closing.specs.Keys.{Key, World, same_key, group_of_key, has_member}
 use Rattle.closing.specs.RankComms.{RankComms, comms_first, after_line}
 use Rattle.closing.specs.Entries.{Run, Placed, journal_at, entries_from, entries_in, entries_at, ranks_of}
 use Rattle.closing.specs.Numbers.{numbered_keys, number_of, named_key, is_of_call, preface_keys, share_member, put_in_line, put_in_lines, preface_lines, rank_in, preface_split, preface_of}
-use Rattle.closing.specs.Reported.{Message, got_in, done_of, message_of}
+use Rattle.closing.specs.Reported.{Message, got_in, done_of, from_nobody, is_moved, unless_moved, message_of}
 use Rattle.closing.specs.Steps.{Written, Progress, Step, WaitsForLate, after_steps}
 use Rattle.closing.specs.Endings.{awaited_at, message_at, awaited_can_be, sends_can_be, can_be, size_at, number_at, why_at}
 use Rattle.closing.specs.Entry.{Choice, is_past, here_at, on_none, parent_group, steps_by, steps_of}
@@ -124,15 +124,22 @@ entries_full run rank is = in_full run rank (journal_at run rank) is (λ journal
 abbrev AwaitedOk : Awaited × Option Message → Type 0
 AwaitedOk it = FieldOk it.0.tag × ReportedOk it.1
 
+unless_ok : (lines : List Line) (request : ℕ) (it : Awaited) → FieldOk it.tag → FieldOk (unless_moved lines request it).tag
+unless_ok lines request it ok = by (is_moved lines request)
+  where
+    by : (b : Bool) → FieldOk (if b then from_nobody it else it).tag
+    by true = refl
+    by false = ok
+
 awaited_ok : (run : Run) (placed : Placed) (it : Called) → placed.called ≡ it → CalledOk it → RunFull run → EntryFull run placed → (one : Awaited × Option Message) → awaited_at placed ≡ Some one → AwaitedOk one
 awaited_ok run placed (Receives awaited) is ok full entry one h =
     subst AwaitedOk (same_Some (awaited, got_in placed.entry) one (rw is at h)) (ok, got_ok (length run) placed.entry full.fits.1 entry.reports)
 awaited_ok run placed (StartsReceive request awaited) is ok full entry one h =
-    subst AwaitedOk (same_Some (awaited, done_of placed.journal.lines request) one (rw is at h)) (ok, done_ok (length run) placed.journal.lines request full.fits.1 entry.lines)
+    subst AwaitedOk (same_Some (unless_moved placed.journal.lines request awaited, done_of placed.journal.lines request) one (rw is at h)) (unless_ok placed.journal.lines request awaited ok, done_ok (length run) placed.journal.lines request full.fits.1 entry.lines)
 awaited_ok run placed (Exchanges sent awaited) is ok full entry one h =
     subst AwaitedOk (same_Some (awaited, got_in placed.entry) one (rw is at h)) (ok.1, got_ok (length run) placed.entry full.fits.1 entry.reports)
 awaited_ok run placed (StartsExchange request received sent awaited) is ok full entry one h =
-    subst AwaitedOk (same_Some (awaited, done_of placed.journal.lines received) one (rw is at h)) (ok.1, done_ok (length run) placed.journal.lines received full.fits.1 entry.lines)
+    subst AwaitedOk (same_Some (unless_moved placed.journal.lines received awaited, done_of placed.journal.lines received) one (rw is at h)) (unless_ok placed.journal.lines received awaited ok.1, done_ok (length run) placed.journal.lines received full.fits.1 entry.lines)
 awaited_ok run placed (Probes awaited) is ok full entry one h =
     subst AwaitedOk (same_Some (awaited, got_in placed.entry) one (rw is at h)) (ok, got_ok (length run) placed.entry full.fits.1 entry.reports)
 awaited_ok run placed (ProbesMatching message awaited) is ok full entry one h =

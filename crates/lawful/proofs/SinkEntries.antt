@@ -14,8 +14,8 @@ use Rattle.journals.specs.Known.{has_report, report_of}
 use Rattle.journals.specs.declared.word.ReportWord.TheVariants as report
 use Rattle.closing.specs.Called.{Called, Sent, Awaited, Receives, StartsReceive, Exchanges, StartsExchange, Probes, ProbesMatching, ReceivesMatched, Waits, Tests, WaitsAny, WaitsSome}
 use Rattle.closing.specs.RankComms.{makes_comm}
-use Rattle.closing.specs.Entries.{Run, Placed, entries_at}
-use Rattle.closing.specs.Reported.{Message, done_of, got_in, is_gone, message_of}
+use Rattle.closing.specs.Entries.{Run, Placed, entries_at, is_window}
+use Rattle.closing.specs.Reported.{Message, done_of, got_in, is_gone, unless_moved, message_of}
 use Rattle.closing.specs.Numbers.{named_key}
 use Rattle.closing.specs.Steps.{Own, Whole, Written, Progress, Step, Does, Starts, WaitsForAll, WaitsForOne, PutsOff, WaitsForLate, number_in, numbers_of, waits_for, wait_for_one, wait_one, plain, after_step, after_steps}
 use Rattle.closing.specs.Endings.{awaited_at, breaks_off, can_be, is_unknown, is_unreported, lacks_number, message_at, needs_number, number_at, why_at}
@@ -32,9 +32,10 @@ use Rattle.lawful.proofs.NewNumbers.{Numbers}
 use Rattle.lawful.proofs.PlainSteps.{strict_past}
 use Rattle.lawful.proofs.SoFarLemmas.{list_grows}
 use Rattle.lawful.proofs.LongerLemmas.{StaysOf, More, with_more, IsOver, AreLater, entries_later}
-use Rattle.lawful.proofs.LongerSteps.{awaited_by, awaited_is, known_kept, message_kept, number_same}
+use Rattle.lawful.proofs.LongerSteps.{moved_stays, awaited_by, awaited_is, known_kept, message_kept, number_same}
 use Rattle.lawful.proofs.LongerMakers.{over_maker, told_maker}
 use Rattle.lawful.proofs.LongerWaves.{waves_same}
+use Rattle.lawful.proofs.LongerWindows.{window_still}
 use Rattle.lawful.proofs.LongerLists.{steps_append, first_with}
 use Rattle.lawful.proofs.SinkStays.{Pairs, Alike, IsCall, pairs_same, pairs_stay, calls_alike}
 use Rattle.lawful.proofs.SinkTakes.{met_stays, message_within, within_itself, nobody_known, wanted_comm, sink_step, still_alike, received_alike}
@@ -139,14 +140,14 @@ exchange_five run choice placed request received sent awaited false false false 
     subst (λ (w : Why). steps_before run choice placed (StartsExchange request received sent awaited) w ≡ []) (same_Some NeverCameBack why h) refl
 exchange_five run choice placed request received sent awaited false false false false why h = absurd (none-some why h)
 
-before_five : (run : Run) (choice : Choice) (placed : Placed) (one : Called) (a b c e : Bool) (why : Why) → or_else (breaks_off one) (five a b c false e) ≡ Some why → steps_before run choice placed one why ≡ []
-before_five run choice placed (StartsExchange request received sent awaited) a b c e why h = exchange_five run choice placed request received sent awaited a b c e why h
-before_five run choice placed _ a b c e why h = refl
+before_five : (run : Run) (choice : Choice) (placed : Placed) (one : Called) (window a b c e : Bool) (why : Why) → or_else (breaks_off window one) (five a b c false e) ≡ Some why → steps_before run choice placed one why ≡ []
+before_five run choice placed (StartsExchange request received sent awaited) window a b c e why h = exchange_five run choice placed request received sent awaited a b c e why h
+before_five run choice placed _ window a b c e why h = refl
 
 before_told : (run : Run) (choice : Choice) (placed : Placed) → is_unreported placed placed.called ≡ false → BeforeNone run choice placed
 before_told run choice placed told why h =
-    before_five run choice placed placed.called (has_report report.Failed placed.entry) (not (can_be run placed)) (lacks_number run placed) (is_unknown placed placed.called) why
-    (ap (λ (d : Bool). or_else (breaks_off placed.called) (five (has_report report.Failed placed.entry) (not (can_be run placed)) (lacks_number run placed) d (is_unknown placed placed.called))) (sym told) ∙ h)
+    before_five run choice placed placed.called (is_window run) (has_report report.Failed placed.entry) (not (can_be run placed)) (lacks_number run placed) (is_unknown placed placed.called) why
+    (ap (λ (d : Bool). or_else (breaks_off (is_window run) placed.called) (five (has_report report.Failed placed.entry) (not (can_be run placed)) (lacks_number run placed) d (is_unknown placed placed.called))) (sym told) ∙ h)
 
 nothing_told : (run longer : Run) (choice : Choice) (placed : Placed) (it : More placed) (old new : Progress) (comm : ℕ) (awaited : Awaited) (x y g : Bool) → Awaiting run longer choice placed it old new comm awaited → is_nobody awaited.source ≡ x → from_nobody (message_at placed) ≡ y → is_out placed.journal.lines placed.called ≡ g → (x || (y || g)) ≡ true → is_unreported placed placed.called ≡ false
 nothing_told run longer choice placed it old new comm awaited true y g wait source own out h =
@@ -253,7 +254,7 @@ wanted_within run longer choice placed it old new comm awaited None (Some m) wai
 why_now : (run : Run) (placed : Placed) → is_sound run placed ≡ true → is_unreported placed placed.called ≡ false → is_unknown placed placed.called ≡ false → why_at run placed ≡ None
 why_now run placed sound told known =
     let is = sound_at run placed sound in
-    none_by (breaks_off placed.called) (has_report report.Failed placed.entry) (not (can_be run placed)) (lacks_number run placed) (is_unreported placed placed.called) (is_unknown placed placed.called)
+    none_by (breaks_off (is_window run) placed.called) (has_report report.Failed placed.entry) (not (can_be run placed)) (lacks_number run placed) (is_unreported placed placed.called) (is_unknown placed placed.called)
     is.breaks is.well is.can is.numbered told known
 
 -- some steps that are the same, and then the receive
@@ -368,14 +369,14 @@ steps_on : (run : Run) (choice : Choice) (placed : Placed) (comm : ℕ) (one : C
 steps_on run choice placed comm one number is =
     ap (λ (o : Option ℕ). steps_by run choice placed o) number ∙ ap (λ (c : Called). on_comm (here_at run choice placed comm) c) is
 
-receive_starts : (run longer : Run) (choice : Choice) (placed : Placed) (it : More placed) (comm request : ℕ) (awaited : Awaited) → placed.called ≡ StartsReceive request awaited → number_at longer (with_more placed it) ≡ Some comm → StaysOf placed.journal.lines it.later.lines request → Starting run longer choice placed it comm awaited
-receive_starts run longer choice placed it comm request awaited is number stays = record {
+receive_starts : (run longer : Run) (choice : Choice) (placed : Placed) (it : More placed) (comm request : ℕ) (said awaited : Awaited) → placed.called ≡ StartsReceive request said → number_at longer (with_more placed it) ≡ Some comm → StaysOf placed.journal.lines it.later.lines request → Starting run longer choice placed it comm awaited
+receive_starts run longer choice placed it comm request said awaited is number stays = record {
   request = request;
   first = [];
   calls = tt;
   now = λ out. ap (λ (c : Called). unsure choice placed (wanted_by comm awaited (message_at placed)) c) is;
   still = ap (λ (c : Called). unsure choice (with_more placed it) (wanted_by comm awaited (message_at (with_more placed it))) c) is;
-  received = λ m h out. steps_on longer choice (with_more placed it) comm (StartsReceive request awaited) number is
+  received = λ m h out. steps_on longer choice (with_more placed it) comm (StartsReceive request said) number is
       ∙ ap (λ (o : Option Message). option_map_or (receive_if comm request (is_gone it.later.lines request)) o []) h
       ∙ ap (λ (b : Bool). receive_if comm request b m) (stays.gone ∙ ap (λ (c : Called). is_out placed.journal.lines c) (sym is) ∙ out);
   told = λ h. ap (λ (c : Called). is_unreported (with_more placed it) c) is ∙ ap (λ (b : Bool). b && not (is_gone it.later.lines request)) h;
@@ -383,8 +384,8 @@ receive_starts run longer choice placed it comm request awaited is number stays 
   no_end = ap (λ (c : Called). is_end c) is;
 }
 
-exchange_starts : (run longer : Run) (choice : Choice) (placed : Placed) (it : More placed) (comm request received : ℕ) (sent : Sent) (awaited : Awaited) → placed.called ≡ StartsExchange request received sent awaited → number_at longer (with_more placed it) ≡ Some comm → StaysOf placed.journal.lines it.later.lines request → StaysOf placed.journal.lines it.later.lines received → Starting run longer choice placed it comm awaited
-exchange_starts run longer choice placed it comm request received sent awaited is number sends receives = record {
+exchange_starts : (run longer : Run) (choice : Choice) (placed : Placed) (it : More placed) (comm request received : ℕ) (sent : Sent) (said awaited : Awaited) → placed.called ≡ StartsExchange request received sent said → number_at longer (with_more placed it) ≡ Some comm → StaysOf placed.journal.lines it.later.lines request → StaysOf placed.journal.lines it.later.lines received → Starting run longer choice placed it comm awaited
+exchange_starts run longer choice placed it comm request received sent said awaited is number sends receives = record {
   request = received;
   first = send_if comm request sent (is_gone placed.journal.lines request);
   calls = calls_if comm request sent (is_gone placed.journal.lines request);
@@ -393,7 +394,7 @@ exchange_starts run longer choice placed it comm request received sent awaited i
   still = ap (λ (c : Called). unsure choice (with_more placed it) (wanted_by comm awaited (message_at (with_more placed it))) c) is
       ∙ ap (λ (n : ℕ). GoesOn (send_if n request sent (is_gone it.later.lines request) ++ sink_step received (wanted_by comm awaited (message_at (with_more placed it))) (is_some (message_at (with_more placed it))) ∷ [])) (wanted_comm comm awaited (message_at (with_more placed it)))
       ∙ ap (λ (b : Bool). GoesOn (send_if comm request sent b ++ sink_step received (wanted_by comm awaited (message_at (with_more placed it))) (is_some (message_at (with_more placed it))) ∷ [])) sends.gone;
-  received = λ m h out. steps_on longer choice (with_more placed it) comm (StartsExchange request received sent awaited) number is
+  received = λ m h out. steps_on longer choice (with_more placed it) comm (StartsExchange request received sent said) number is
       ∙ ap (λ (b : Bool). send_if comm request sent b ++ option_map_or (receive_if comm received (is_gone it.later.lines received)) (message_at (with_more placed it)) []) sends.gone
       ∙ ap (λ (o : Option Message). send_if comm request sent (is_gone placed.journal.lines request) ++ option_map_or (receive_if comm received (is_gone it.later.lines received)) o []) h
       ∙ ap (λ (b : Bool). send_if comm request sent (is_gone placed.journal.lines request) ++ receive_if comm received b m) (receives.gone ∙ ap (λ (c : Called). is_out placed.journal.lines c) (sym is) ∙ out);
@@ -458,20 +459,24 @@ call_result run longer choice placed it entries old new (Exchanges sent awaited)
     awaited_result run longer choice placed it entries old new number.0 awaited case wait
     (λ some h. exchange_result run longer choice placed it entries old new (starts_half wanted (Whole placed.line) sent ∷ sinks placed wanted None ∷ []) case
     (ap (λ (c : Called). is_exchange c) is) (h ∙ ap (λ (c : Called). Some (unsure choice placed wanted c)) is))
-call_result run longer choice placed it entries old new (StartsReceive request awaited) is all case =
+call_result run longer choice placed it entries old new (StartsReceive request said) is all case =
     let number = number_there run placed case.sound (ap (λ (c : Called). needs_number c) is) in
-    let wait = awaiting run longer choice placed it old new number.0 awaited (StartsReceive request awaited) (done_of placed.journal.lines request) (done_of it.later.lines request) is number.1 refl refl refl refl tt
+    let awaited = unless_moved placed.journal.lines request said in
+    let also = ap (λ (a : Awaited). Some (a, done_of it.later.lines request)) (moved_stays placed.journal.lines it.later.lines request said all) in
+    let wait = awaiting run longer choice placed it old new number.0 awaited (StartsReceive request said) (done_of placed.journal.lines request) (done_of it.later.lines request) is number.1 refl also refl refl tt
     (λ h. ap (λ (b : Bool). b && not (is_gone placed.journal.lines request)) h) (λ h. out_told (is_none (message_at placed)) (is_gone placed.journal.lines request) h) in
     awaited_result run longer choice placed it entries old new number.0 awaited case wait
     (start_result run longer choice placed it entries old new number.0 awaited case wait
-    (receive_starts run longer choice placed it number.0 request awaited is (number_later run longer choice placed it number.0 case.both number.1) all))
-call_result run longer choice placed it entries old new (StartsExchange request received sent awaited) is all case =
+    (receive_starts run longer choice placed it number.0 request said awaited is (number_later run longer choice placed it number.0 case.both number.1) all))
+call_result run longer choice placed it entries old new (StartsExchange request received sent said) is all case =
     let number = number_there run placed case.sound (ap (λ (c : Called). needs_number c) is) in
-    let wait = awaiting run longer choice placed it old new number.0 awaited (StartsExchange request received sent awaited) (done_of placed.journal.lines received) (done_of it.later.lines received) is number.1 refl refl refl refl tt
+    let awaited = unless_moved placed.journal.lines received said in
+    let also = ap (λ (a : Awaited). Some (a, done_of it.later.lines received)) (moved_stays placed.journal.lines it.later.lines received said all.1) in
+    let wait = awaiting run longer choice placed it old new number.0 awaited (StartsExchange request received sent said) (done_of placed.journal.lines received) (done_of it.later.lines received) is number.1 refl also refl refl tt
     (λ h. ap (λ (b : Bool). b && not (is_gone placed.journal.lines received)) h) (λ h. out_told (is_none (message_at placed)) (is_gone placed.journal.lines received) h) in
     awaited_result run longer choice placed it entries old new number.0 awaited case wait
     (start_result run longer choice placed it entries old new number.0 awaited case wait
-    (exchange_starts run longer choice placed it number.0 request received sent awaited is (number_later run longer choice placed it number.0 case.both number.1) all.0 all.1))
+    (exchange_starts run longer choice placed it number.0 request received sent said awaited is (number_later run longer choice placed it number.0 case.both number.1) all.0 all.1))
 call_result run longer choice placed it entries old new one is all case =
     none_result run longer choice placed it entries old new case
     (subst (λ (c : Called). (why : Why) → why_at run placed ≡ Some why → steps_before run choice placed c why ≡ []) (sym is) (λ why h. refl))
@@ -619,10 +624,10 @@ makers_by run longer placed it entries true None told last is line = inr (last, 
 
 pub what_is_told_stays_with_sinks : WhatIsToldStaysWithSinks
 what_is_told_stays_with_sinks run longer choice rank strict with_sinks waits read read_longer long kept nobody =
-    let all = λ (other : ℕ). entries_later run longer other read_longer (long.more other) (long.none_gone other) in
+    let all = λ (other : ℕ). entries_later run longer other read_longer (long.more other) (long.none_gone other) (long.none_moved other) in
     let waves = waves_same run longer read long.ranks long.numbers all in
     let whole : Runs run longer choice = record {
-      both = record { strict = strict; with_sinks = with_sinks; as_waits = waits; numbers = long.numbers };
+      both = record { strict = strict; with_sinks = with_sinks; as_waits = waits; numbers = long.numbers; windows = window_still run longer read_longer long.ranks long.more };
       makers = λ placed it entries over. elim over [
         | inl last ↦ makers_by run longer placed it entries (makes_comm placed.called) (report_of report.Comm placed.entry)
             (λ line is makes also comm. told_maker run longer placed it comm line long.ranks long.numbers waves makes is) last refl refl

@@ -13,9 +13,9 @@ use Rattle.journals.specs.declared.word.ReportWord.TheVariants as report
 use Rattle.closing.specs.Called.{Called, Sent, Awaited, StartsSend, StartsReceive, StartsExchange, ProbesMatching, ReceivesMatched, Waits, Tests, WaitsAny, WaitsSome, StartsCollective, StartsDuplicate}
 use Rattle.closing.specs.Keys.{Key}
 use Rattle.closing.specs.RankComms.{makes_comm}
-use Rattle.closing.specs.Entries.{Run, Placed}
+use Rattle.closing.specs.Entries.{Run, Placed, is_window}
 use Rattle.closing.specs.Numbers.{named_key, number_of}
-use Rattle.closing.specs.Reported.{Message, is_gone}
+use Rattle.closing.specs.Reported.{Message, is_left_out}
 use Rattle.closing.specs.Steps.{Id, Written, Progress, Step, WaitsForLate, after_steps}
 use Rattle.closing.specs.Endings.{breaks_off, can_be, chose_none, first_of, is_unknown, is_unreported, lacks_number, message_at, needs_number, number_at, why_at}
 use Rattle.closing.specs.Entry.{Choice, here_at, id_of, ids_of, maker, matched_message, chosen, passes_tests, pass_test, wait_for_all, wait_for_one, unless_past, on_comm, on_none, steps_by, steps_of}
@@ -32,7 +32,7 @@ use Rattle.lawful.proofs.NewNumbers.{AllOf}
 use Rattle.lawful.proofs.NoSinks.{clear}
 use Rattle.lawful.proofs.PlainSteps.{strict_past}
 use Rattle.lawful.proofs.LongerLemmas.{StaysOf, More, with_more, IsOver}
-use Rattle.lawful.proofs.LongerSteps.{can_stay, chose_by, chosen_stays, ids_stay, number_same, steps_stay, why_stays}
+use Rattle.lawful.proofs.LongerSteps.{breaks_kept, can_stay, chose_by, chosen_stays, ids_stay, number_same, steps_stay, why_stays}
 use Rattle.lawful.proofs.LongerLists.{maker_no_end}
 use Rattle.lawful.proofs.SinkStays.{Pairs, Alike, Clear, IsCall, has_sink, is_active_sink, sinks_stay, none_sunk, none_found, calls_alike, all_alike, one_alike, late_alike}
 
@@ -42,6 +42,7 @@ pub record Both (run longer : Run) (choice : Choice) : Type 0 where
   pub with_sinks : choice.unreported ≡ unreported.Sinks
   pub as_waits : passes_tests choice.tests choice.calls ≡ false
   pub numbers : (key : Key) → number_of longer key ≡ number_of run key
+  pub windows : is_window run ≡ true → is_window longer ≡ true
 
 -- of an entry nothing is reported later that breaks its list off
 pub record Fine (run longer : Run) (placed : Placed) (it : More placed) : Type 0 where
@@ -99,8 +100,8 @@ sound_by o a b c breaks well can numbered = rw (breaks, well, can, numbered) ref
 pub none_by : (o : Option Why) (a b c d e : Bool) → o ≡ None → a ≡ false → b ≡ false → c ≡ false → d ≡ false → e ≡ false → or_else o (five a b c d e) ≡ None
 none_by o a b c d e breaks well can numbered told known = rw (breaks, well, can, numbered, told, known) refl
 
-pub sound_at : (run : Run) (placed : Placed) → is_sound run placed ≡ true → Sound (breaks_off placed.called) (has_report report.Failed placed.entry) (not (can_be run placed)) (lacks_number run placed)
-sound_at run placed h = sound_of (breaks_off placed.called) (has_report report.Failed placed.entry) (not (can_be run placed)) (lacks_number run placed) h
+pub sound_at : (run : Run) (placed : Placed) → is_sound run placed ≡ true → Sound (breaks_off (is_window run) placed.called) (has_report report.Failed placed.entry) (not (can_be run placed)) (lacks_number run placed)
+sound_at run placed h = sound_of (breaks_off (is_window run) placed.called) (has_report report.Failed placed.entry) (not (can_be run placed)) (lacks_number run placed) h
 
 lacks_still : (run longer : Run) (placed : Placed) (it : More placed) → ((key : Key) → number_of longer key ≡ number_of run key) → lacks_number run placed ≡ false → lacks_number longer (with_more placed it) ≡ false
 lacks_still run longer placed it numbers h = ap (λ (o : Option ℕ). needs_number placed.called && is_none o) (number_same run longer (named_key placed) numbers) ∙ h
@@ -108,8 +109,8 @@ lacks_still run longer placed it numbers h = ap (λ (o : Option ℕ). needs_numb
 pub sound_kept : (run longer : Run) (choice : Choice) (placed : Placed) (it : More placed) → Both run longer choice → Fine run longer placed it → is_sound run placed ≡ true → is_sound longer (with_more placed it) ≡ true
 sound_kept run longer choice placed it both fine h =
     let is = sound_at run placed h in
-    sound_by (breaks_off placed.called) (has_report report.Failed it.entry) (not (can_be longer (with_more placed it))) (lacks_number longer (with_more placed it))
-    is.breaks (fine.kept.failed is.well) (can_stay run longer placed it fine.kept is.can) (lacks_still run longer placed it both.numbers is.numbered)
+    sound_by (breaks_off (is_window longer) placed.called) (has_report report.Failed it.entry) (not (can_be longer (with_more placed it))) (lacks_number longer (with_more placed it))
+    (breaks_kept (is_window run) (is_window longer) placed.called both.windows is.breaks) (fine.kept.failed is.well) (can_stay run longer placed it fine.kept is.can) (lacks_still run longer placed it both.numbers is.numbered)
 
 unsound_why : (o : Option Why) (a b c d e : Bool) → is_none (or_else o (three a b c)) ≡ false → or_else o (five a b c d e) ≡ or_else o (three a b c)
 unsound_why (Some why) a b c d e h = refl
@@ -131,9 +132,9 @@ exchange_three run choice placed request received sent awaited false false true 
     subst (λ (w : Why). steps_before run choice placed (StartsExchange request received sent awaited) w ≡ []) (same_Some NoNumber why h) refl
 exchange_three run choice placed request received sent awaited false false false why h = absurd (none-some why h)
 
-before_three : (run : Run) (choice : Choice) (placed : Placed) (it : Called) (a b c : Bool) (why : Why) → or_else (breaks_off it) (three a b c) ≡ Some why → steps_before run choice placed it why ≡ []
-before_three run choice placed (StartsExchange request received sent awaited) a b c why h = exchange_three run choice placed request received sent awaited a b c why h
-before_three run choice placed _ a b c why h = refl
+before_three : (run : Run) (choice : Choice) (placed : Placed) (it : Called) (window a b c : Bool) (why : Why) → or_else (breaks_off window it) (three a b c) ≡ Some why → steps_before run choice placed it why ≡ []
+before_three run choice placed (StartsExchange request received sent awaited) window a b c why h = exchange_three run choice placed request received sent awaited a b c why h
+before_three run choice placed _ window a b c why h = refl
 
 in_sinks : (run : Run) (choice : Choice) (records : List Written) (placed : Placed) → choice.unreported ≡ unreported.Sinks → outcome_in run choice records placed ≡ unwrap_or (outcome_by_sinks run choice records placed) (outcome_of run choice placed)
 in_sinks run choice records placed is = rw is refl
@@ -146,15 +147,15 @@ in_by run choice records placed o sunk sound is =
 
 pub unsound_result : (run longer : Run) (choice : Choice) (placed : Placed) (it : More placed) (entries : List Placed) (old new : Progress) → Both run longer choice → is_sound run placed ≡ false → Result run longer choice placed it entries old new
 unsound_result run longer choice placed it entries old new both h =
-    let same = unsound_why (breaks_off placed.called) (has_report report.Failed placed.entry) (not (can_be run placed)) (lacks_number run placed) (is_unreported placed placed.called) (is_unknown placed placed.called) h in
-    let why = some_why (or_else (breaks_off placed.called) (three (has_report report.Failed placed.entry) (not (can_be run placed)) (lacks_number run placed))) h in
+    let same = unsound_why (breaks_off (is_window run) placed.called) (has_report report.Failed placed.entry) (not (can_be run placed)) (lacks_number run placed) (is_unreported placed placed.called) (is_unknown placed placed.called) h in
+    let why = some_why (or_else (breaks_off (is_window run) placed.called) (three (has_report report.Failed placed.entry) (not (can_be run placed)) (lacks_number run placed))) h in
     let is : outcome_in run choice old.records placed ≡ outcome_by run choice placed (Some why.0) =
     in_sinks run choice old.records placed both.with_sinks
     ∙ ap (λ (b : Bool). unwrap_or (if b then by_call run choice old.records placed placed.called else None) (outcome_of run choice placed)) h
     ∙ ap (λ (o : Option Why). outcome_by run choice placed o) (same ∙ why.1) in
     inl (subst (λ (one : Outcome). Comes old new placed.line one (outcome_in longer choice new.records (with_more placed it))) (sym is)
     (stops old new placed.line (steps_before run choice placed placed.called why.0) (Some why.0) (outcome_in longer choice new.records (with_more placed it))
-    (before_three run choice placed placed.called (has_report report.Failed placed.entry) (not (can_be run placed)) (lacks_number run placed) why.0 why.1)))
+    (before_three run choice placed placed.called (is_window run) (has_report report.Failed placed.entry) (not (can_be run placed)) (lacks_number run placed) why.0 why.1)))
 
 -- ---- Steps without sinks ----
 
@@ -189,7 +190,7 @@ clear_map lines records active (request ∷ requests) covers none =
 
 clear_ids : (old new : Progress) (placed : Placed) (requests : List ℕ) → Alike old new → name_sink old.records placed requests ≡ false → Clear old.active (ids_of placed.journal.lines requests)
 clear_ids old new placed requests alike none =
-    clear_map placed.journal.lines old.records old.active (filter (λ request. not (is_gone placed.journal.lines request)) requests) alike.covers none
+    clear_map placed.journal.lines old.records old.active (filter (λ request. not (is_left_out placed.journal.lines request)) requests) alike.covers none
 
 one_of : (old new : Progress) (line : ℕ) (ids named : List Id) → Clear old.active ids → Alike old new → Alike (after_steps old line (wait_for_one ids named)) (after_steps new line (wait_for_one ids named))
 one_of old new line [] named clear alike = alike
@@ -266,7 +267,7 @@ plain_result run longer choice placed it entries old new both fine alike silent 
         let go = goes why in
         inl (subst (λ (one : Outcome). Comes old new placed.line one other) (sym (is ∙ ap (λ (o : Option Why). outcome_by run choice placed o) why))
         (subst (λ (one : Outcome). Comes old new placed.line (end_by run choice placed (is_end placed.called)) one)
-        (sym (go.1 ∙ ap (λ (o : Option Why). outcome_by longer choice (with_more placed it) o) (why_stays run longer placed it both.numbers fine.kept why)))
+        (sym (go.1 ∙ ap (λ (o : Option Why). outcome_by longer choice (with_more placed it) o) (why_stays run longer placed it both.numbers both.windows fine.kept why)))
         (goes_comes run longer choice placed it old new both alike why maker go.0)))
     of_silent (inr it) why =
         inr (silent_last run choice placed entries old
@@ -297,7 +298,7 @@ name_kept lines old new (request ∷ requests) pairs none =
 names_none : (old new : Progress) (placed : Placed) (it : More placed) (requests : List ℕ) → Alike old new → AllOf (StaysOf placed.journal.lines it.later.lines) requests → name_sink old.records placed requests ≡ false → name_sink new.records (with_more placed it) requests ≡ false
 names_none old new placed it requests alike all none =
     ap (λ (ids : List Id). some_sunk new.records ids) (ids_stay placed.journal.lines it.later.lines requests all)
-    ∙ name_kept placed.journal.lines old.records new.records (filter (λ request. not (is_gone placed.journal.lines request)) requests) alike.records none
+    ∙ name_kept placed.journal.lines old.records new.records (filter (λ request. not (is_left_out placed.journal.lines request)) requests) alike.records none
 
 waits_none : (choice : Choice) (records : List Written) (placed : Placed) (requests : List ℕ) → choice.calls ≡ Strict → name_sink records placed requests ≡ false → waits_by choice records placed requests ≡ None
 waits_none choice records placed requests strict none =

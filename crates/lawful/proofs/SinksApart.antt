@@ -26,7 +26,7 @@ use Rattle.closing.specs.Keys.{Key, group_of_key}
 use Rattle.closing.specs.Made.{key_made, wave_at}
 use Rattle.closing.specs.Entries.{Run, Placed, is_window}
 use Rattle.closing.specs.Numbers.{rank_in}
-use Rattle.closing.specs.Reported.{Message, done_of, got_in, is_gone, known_field, message_from, message_of}
+use Rattle.closing.specs.Reported.{Message, done_of, got_in, is_gone, unless_moved, known_field, message_from, message_of}
 use Rattle.closing.specs.Steps.{Id, Own, Whole, ReceiveHalf, Written, Progress, Step, Does, Starts, WaitsForAll, WaitsForOne, PutsOff, WaitsForLate, number_in, numbers_of, least_free, waits_for, wait_for_one, wait_one, plain, after_step, after_steps}
 use Rattle.closing.specs.Endings.{awaited_at, breaks_off, can_be, first_of, is_unknown, is_unreported, lacks_number, message_at, number_at, why_at}
 use Rattle.closing.specs.Entry.{Choice, Here, peer as peer_in, tag as tag_in, send, start_send, receive, start_receive, exchange, probe, start_collective, kind_of, giving_line, bare_line, maker_by, parent_group, parent_rank, brings, split_key, does, does_both, starts, does_collective, starts_collective, unless_past, on_comm, on_none, is_past, here_at, steps_by, steps_of}
@@ -422,11 +422,11 @@ clean_for : (run : Run) (choice : Choice) (records : List Written) (placed : Pla
 clean_for run choice records placed comm (Receives awaited) called passed number = λ it known.
     passed_clean run choice records placed comm (awaited, got_in placed.entry) it passed number (rw called refl) known (rw called refl)
 clean_for run choice records placed comm (StartsReceive request awaited) called passed number = λ stays it known.
-    passed_clean run choice records placed comm (awaited, done_of placed.journal.lines request) it passed number (rw called refl) known (rw called stays)
+    passed_clean run choice records placed comm (unless_moved placed.journal.lines request awaited, done_of placed.journal.lines request) it passed number (rw called refl) known (rw called stays)
 clean_for run choice records placed comm (Exchanges sent awaited) called passed number = λ it known.
     passed_clean run choice records placed comm (awaited, got_in placed.entry) it passed number (rw called refl) known (rw called refl)
 clean_for run choice records placed comm (StartsExchange request received sent awaited) called passed number = λ stays it known.
-    passed_clean run choice records placed comm (awaited, done_of placed.journal.lines received) it passed number (rw called refl) known (rw called stays)
+    passed_clean run choice records placed comm (unless_moved placed.journal.lines received awaited, done_of placed.journal.lines received) it passed number (rw called refl) known (rw called stays)
 clean_for run choice records placed comm (Probes awaited) called passed number = λ it known.
     passed_clean run choice records placed comm (awaited, got_in placed.entry) it passed number (rw called refl) known (rw called refl)
 clean_for run choice records placed comm (ProbesMatching message awaited) called passed number = λ it known.

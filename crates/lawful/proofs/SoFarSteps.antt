@@ -268,11 +268,11 @@ begins run longer choice lines later (placed ∷ entries) (other ∷ others) pro
     let end = plain_no_end placed.called plains.0 in
     let new = after_steps progress placed.line (steps_of run choice placed) in
     let now = next_list run choice placed entries progress none why end in
-    let then = ap (λ (one : Placed). list_from longer choice progress (one ∷ others)) all.0.1
+    let next = ap (λ (one : Placed). list_from longer choice progress (one ∷ others)) all.0.1
     ∙ next_list longer choice (with_later placed later back) others progress none (it.why ∙ why) end
     ∙ ap (λ (steps : List Step). list_from longer choice (after_steps progress placed.line steps) others) it.steps in
     let rest = begins run longer choice lines later entries others new (steps_none progress placed.line (steps_of run choice placed) (steps_not run choice placed) none) both all.1 here.1 plains.1 in
-    (rest.0, ap (λ (list : Listed). list.records) then ∙ rest.1 ∙ ap (λ (list : Listed). list.records ++ rest.0) (sym now))
+    (rest.0, ap (λ (list : Listed). list.records) next ∙ rest.1 ∙ ap (λ (list : Listed). list.records ++ rest.0) (sym now))
 
 pub what_is_so_far_stays : WhatIsSoFarStays
 what_is_so_far_stays run longer choice rank strict on plain =

@@ -49,6 +49,7 @@ use Rattle.lawful.proofs.KnownLines.{still_taken, same_matched, same_send}
 use Rattle.lawful.proofs.SentRequests.{Sound, sound_first, sound_push, sound_all, send_push, new_taken, free_not_sent, both_false, either_true}
 use Rattle.lawful.proofs.ActiveSends.{Distinct, IsActive, AllSteps, Keeps, steps_distinct, steps_active, started_active}
 use Rattle.lawful.proofs.OwnSteps.{PassOwn, done_by, stands_for, NoneStands, on_comm_all, received_all, all_append, all_if, all_unless, waits_all, steps_by_keep}
+use Rattle.lawful.proofs.PlainSteps.{gone_of}
 use Rattle.lawful.proofs.RunFacts.{right_of_rank}
 use Rattle.closing.specs.Fit.{starts_send, StartsKind, HasKind, AllHaveKind, TestFits, TestsFit, FitsOn}
 use Rattle.lawful.specs.Laws.{IsRead}
@@ -374,7 +375,7 @@ has_kind lines cur word fields later pending progress request here last holds kn
 all_kinds : (lines cur : List Line) (word : CallWord) (fields : List Field) (later : List Line) (pending : Option Entry) (progress : Progress) (requests : List ℕ) → IsCall lines cur word fields later → last_entry cur ≡ pending → Holds lines cur pending progress → AllOf (IsKnown cur) requests → AllHaveKind lines progress requests
 all_kinds lines cur word fields later pending progress [] here last holds known = tt
 all_kinds lines cur word fields later pending progress (request ∷ requests) here last holds known =
-    (has_kind lines cur word fields later pending progress request here last holds known.0, all_kinds lines cur word fields later pending progress requests here last holds known.1)
+    (λ stays. has_kind lines cur word fields later pending progress request here last holds known.0 (gone_of lines request stays), all_kinds lines cur word fields later pending progress requests here last holds known.1)
 
 strict_past : (one : TestsChoice) (other : Calls) (placed : Placed) → passes_tests one other ≡ true → is_past other placed ≡ false
 strict_past tests.Pass calls.Strict placed h = refl

@@ -11,7 +11,7 @@ use Rattle.journals.specs.declared.word.ReportWord.TheVariants as report
 use Rattle.closing.specs.Keys.{Key}
 use Rattle.closing.specs.RankComms.{makes_comm}
 use Rattle.closing.specs.Entries.{Run, Placed, lines_at, entries_at}
-use Rattle.closing.specs.Reported.{is_gone}
+use Rattle.closing.specs.Reported.{is_gone, is_moved}
 use Rattle.closing.specs.Numbers.{number_of, preface_of}
 use Rattle.closing.specs.Steps.{Written}
 use Rattle.closing.specs.Endings.{can_be, why_at}
@@ -34,11 +34,18 @@ NoneIsGone run longer rank =
     (request : ℕ) → is_free (lines_at run rank) request ≡ false →
     is_gone (lines_at longer rank) request ≡ is_gone (lines_at run rank) request
 
+-- nor is it reported later that it is moved, as a journal does that ends with a cut
+abbrev pub NoneIsMoved : Run → Run → ℕ → Type 0
+NoneIsMoved run longer rank =
+    (request : ℕ) → is_free (lines_at run rank) request ≡ false →
+    is_moved (lines_at longer rank) request ≡ is_moved (lines_at run rank) request
+
 -- each journal goes on, whatever its header says; communicators have the same numbers
 pub record IsLonger (run longer : Run) : Type 0 where
   pub ranks : length longer ≡ length run
   pub more : (rank : ℕ) → HasMore run longer rank
   pub none_gone : (rank : ℕ) → NoneIsGone run longer rank
+  pub none_moved : (rank : ℕ) → NoneIsMoved run longer rank
   pub numbers : (key : Key) → number_of longer key ≡ number_of run key
   pub prefaces : (rank : ℕ) → preface_of longer rank ≡ preface_of run rank
 

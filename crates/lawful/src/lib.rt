@@ -24,7 +24,7 @@
 //! `FreeLemmas` all lists; `SameLemmas` has numbers of communicators, `PlainLemmas` what plain calls add, `PlainSteps`
 //! their lists, `SoFarLemmas` and `SoFarSteps` those of a journal that goes on. `LongerLemmas` has what such a journal says
 //! of each call, `LongerSteps` what the call stands for, `LongerMakers` and `LongerWaves` what makes communicators,
-//! `LongerLists` the lists. Of those with sinks `SinkStays` has the numbers of requests, `SinkGoes` and `SinkTakes` what
+//! `LongerWindows` that a cut run stays one, `LongerLists` the lists. Of those with sinks `SinkStays` has the numbers of requests, `SinkGoes` and `SinkTakes` what
 //! comes of waits and of receives, `SinkEntries` all calls and the lists.
 //!
 //! `specs/Fit` says that what the making of a recording rests on is true of each run that was read. `RightLines` says that
