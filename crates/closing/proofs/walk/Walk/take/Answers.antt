@@ -83,7 +83,7 @@ returns-in-Exchanges-clause-messages c = on_ok _ c.exchanges.result (messages_as
 pub returns-in-StartsExchange-clause-takes : goal.returns-in-StartsExchange-clause-takes
 returns-in-StartsExchange-clause-takes c = λ spot meets makes.
     takes_as (choice_in c.args.self.now.choice) spot c.args.it.now _ c.starts_exchange.result c.args.self.now.list c.starts_exchange.new.self.list c.in-StartsExchange.is
-    (exchanges_as spot _ _ (sent_view c.in-StartsExchange.sent.now) _ _ c.starts_exchange.result c.args.self.now.list c.starts_exchange.new.self.list (c.unless_moved-awaited-in-StartsExchange.ensures spot.lines meets.tells) (c.starts_exchange.ensures.takes spot meets.at meets.lines meets.tells))
+    (exchanges_as spot _ _ (sent_view c.in-StartsExchange.sent) _ _ c.starts_exchange.result c.args.self.now.list c.starts_exchange.new.self.list (c.unless_moved-awaited-in-StartsExchange.ensures spot.lines meets.tells) (c.starts_exchange.ensures.takes spot meets.at meets.lines meets.tells))
 
 pub returns-in-StartsExchange-clause-late : goal.returns-in-StartsExchange-clause-late
 returns-in-StartsExchange-clause-late c = on_ok _ c.starts_exchange.result (λ spot meets.

@@ -22,7 +22,7 @@ returns-in-Exchanges-clause-takes c = λ spot meets line back.
 pub returns-in-StartsExchange-clause-takes : goal.returns-in-StartsExchange-clause-takes
 returns-in-StartsExchange-clause-takes c = λ spot meets line back.
     called_as spot c.args.at.now.came_back c.args.it.now _ c.starts_exchange_sink.result c.args.self.now c.starts_exchange_sink.new.self c.in-StartsExchange.is
-    (sunk_exchange_as spot c.args.at.now.came_back _ _ (sent_view c.in-StartsExchange.sent.now) _ _ c.starts_exchange_sink.result c.args.self.now c.starts_exchange_sink.new.self (c.unless_moved-awaited-in-StartsExchange.ensures spot.lines meets.tells) (c.starts_exchange_sink.ensures.takes spot meets.at line meets.lines meets.tells))
+    (sunk_exchange_as spot c.args.at.now.came_back _ _ (sent_view c.in-StartsExchange.sent) _ _ c.starts_exchange_sink.result c.args.self.now c.starts_exchange_sink.new.self (c.unless_moved-awaited-in-StartsExchange.ensures spot.lines meets.tells) (c.starts_exchange_sink.ensures.takes spot meets.at line meets.lines meets.tells))
 
 pub returns-in-Probes-clause-takes : goal.returns-in-Probes-clause-takes
 returns-in-Probes-clause-takes c = λ spot meets line back.
