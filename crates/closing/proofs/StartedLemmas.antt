@@ -1,5 +1,5 @@
 -- The active requests of a rank, as one is put into the table or the map, or taken out of them.
-use Rattle.std.proofs.Common.{◌≡◌, ◌∙◌, ◌<◌, ◌%◌, ◌==◌, ℕ, zero, suc, Bool, true, false, cond, refl, sym, ap, List, length, replicate, set, Option, Some, None, inl, inr, if◌then◌else◌}
+use Rattle.std.proofs.Common.{◌≡◌, ◌∙◌, ◌<◌, ◌%◌, ◌==◌, ℕ, zero, suc, Bool, true, false, refl, sym, ap, List, length, replicate, set, Option, Some, None, inl, inr, if◌then◌else◌}
 use Rattle.std.specs.Prelude.{slice_get}
 use Rattle.std.proofs.lemmas.Bool.{cases_eq, cond-true, cond-false, eq-eqb, eqb-true, ne_eqb}
 use Rattle.mpicall.specs.Word.{or_else}

@@ -1,6 +1,6 @@
 -- Waits that name sinks, and what a pending one waits for.
 use Rattle.std.proofs.Common.{◌≡◌, refl, sym, ◌∙◌, ap, subst, ℕ, suc, ◌≤◌, Bool, true, false, ◌&&◌, ◌||◌, not, cond, if◌then◌else◌, Option, Some, None, option_and_then, option_map, Result, Ok, Err, List, [], ◌∷◌, ◌++◌, length, map, arith}
-use Rattle.std.specs.Prelude.{OnOk, is_some, is_none, nat_eq, option_to_list}
+use Rattle.std.specs.Prelude.{OnOk, is_some, is_none, option_to_list}
 use Rattle.closing.specs.inner.Started.{active_at as started_at}
 use Rattle.std.specs.List.{filter, filter_map, find, list_all, list_any}
 use Rattle.std.proofs.lemmas.List.Elements.{filter_map-append}

@@ -1,6 +1,6 @@
 -- The waits for several requests, as the list of a rank gets them.
 use Rattle.std.proofs.Common.{◌≡◌, ◌∙◌, ◌<◌, ◌≤◌, ◌+◌, ◌-◌, ◌*◌, ℕ, zero, suc, true, not, refl, sym, ap, subst, arith, List, [], ◌∷◌, ◌++◌, length, map, take, drop, get_or, append_assoc, length-append, length-drop, option_map, Result, Err, eqb, leb, ltb}
-use Rattle.std.specs.Prelude.{nat_eq, IsTrue}
+use Rattle.std.specs.Prelude.{IsTrue}
 use Rattle.std.specs.List.{list_all}
 use Rattle.closing.specs.inner.Started.{active_at}
 use Rattle.std.specs.BinaryHeap.{heap_items}

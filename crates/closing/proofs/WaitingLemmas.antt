@@ -1,6 +1,6 @@
 -- The list of a rank as entries are taken that wait or test.
 use Rattle.std.proofs.Common.{◌≡◌, refl, sym, ◌∙◌, ap, subst, ℕ, Bool, true, false, not, Option, Some, None, Result, Ok, Err, List, [], ◌∷◌, ◌++◌, ◌<◌, ◌≤◌, ◌+◌, map, take, drop, get_or, length, inl, inr, arith, append_assoc}
-use Rattle.std.specs.Prelude.{nat_eq, IfSome, OnOk, is_some, option_map, slice_get, if◌then◌else◌}
+use Rattle.std.specs.Prelude.{IfSome, OnOk, is_some, option_map, slice_get, if◌then◌else◌}
 use Rattle.std.specs.List.{filter}
 use Rattle.closing.specs.inner.Started.{active_at}
 use Rattle.std.proofs.lemmas.Bool.{cases_Bool, cond-true, cond-false}

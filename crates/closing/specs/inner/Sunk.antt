@@ -1,6 +1,6 @@
 -- What comes of an entry by the sinks before it, by what is known of where its call stands: as `Sinks` has it, by each
 -- call; and what is kept after it.
-use Rattle.std.specs.Prelude.{◌≡◌, ℕ, ◌-◌, nat_eq, Bool, true, false, ◌&&◌, ◌||◌, not, Option, Some, None, is_some, is_none, option_map, option_and_then, option_to_list, if◌then◌else◌, Result, Ok, Err, List, [], ◌∷◌, ◌++◌, take}
+use Rattle.std.specs.Prelude.{◌≡◌, ℕ, ◌-◌, Bool, true, false, ◌&&◌, ◌||◌, not, Option, Some, None, is_some, is_none, option_map, option_and_then, option_to_list, if◌then◌else◌, Result, Ok, Err, List, [], ◌∷◌, ◌++◌, take}
 use Rattle.std.specs.List.{filter_map, list_all, list_any}
 use Rattle.closing.specs.inner.Started.{active_at as started_at}
 use Rattle.mpicall.specs.Word.{or_else}

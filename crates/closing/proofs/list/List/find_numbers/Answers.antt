@@ -1,6 +1,5 @@
 -- One request more is found, or as many as a line may name.
 use Rattle.std.proofs.Common.{◌≡◌, ◌∙◌, ◌<◌, ◌≤◌, ◌+◌, ◌++◌, ap, arith, drop, get_or, length, map, option_map, subst, sym}
-use Rattle.std.specs.Prelude.{nat_eq}
 use Rattle.closing.specs.inner.Started.{active_at}
 use Rattle.std.proofs.lemmas.List.{append-nil, drop_all, drop_more}
 use Rattle.mpicall.specs.declared.limits.TheConstants.{MOST_REQUESTS}
