@@ -1,9 +1,10 @@
 -- What a journal says of its calls and requests so far stays when it goes on.
-use Rattle.std.proofs.Common.{◌≡◌, ◌⊎◌, ℕ, ◌+◌, ◌||◌, Bool, true, false, Option, Some, None, List, [], ◌∷◌, ◌++◌, length, refl, sym, ap, subst, ◌∙◌, append_assoc, append-nil, inl, inr, arith}
+use Rattle.std.proofs.Common.{◌≡◌, ◌⊎◌, ℕ, ◌+◌, ◌==◌, ◌||◌, Bool, true, false, Option, Some, None, List, [], ◌∷◌, ◌++◌, length, refl, sym, ap, subst, ◌∙◌, append_assoc, append-nil, inl, inr, arith}
 use Rattle.std.specs.Prelude.{⊤}
 use Rattle.std.specs.List.{find, list_any}
 use Rattle.std.proofs.lemmas.Bool.{cases_Bool, false≢true}
 use Rattle.std.proofs.lemmas.List.Folds.{list_any-append}
+use Rattle.std.proofs.lemmas.Option.{none-some, same_Some}
 use Rattle.journals.specs.Lines.{Line}
 use Rattle.journals.specs.Words.{is_call}
 use Rattle.journals.specs.Faults.{is_free}
@@ -20,14 +21,15 @@ use Rattle.closing.specs.Called.{Called, StartsSend, StartsReceive, StartsExchan
 use Rattle.closing.specs.RankComms.{RankComms, comms_first, after_line}
 use Rattle.closing.specs.Entries.{Run, Placed, journal_at, lines_in, entries_from, entries_in, entries_at, did_come_back}
 use Rattle.closing.specs.Reported.{is_gone, is_moved, is_left_out}
-use Rattle.closing.specs.Entry.{id_of, is_of_send}
+use Rattle.closing.specs.Entry.{id_of, is_of_send, starts_send_with}
+use Rattle.closing.specs.Sinks.{request_received}
 use Rattle.lawful.specs.Laws.{IsRead}
 use Rattle.lawful.specs.Longer.{HasMore, NoneIsGone, NoneIsMoved}
 use Rattle.lawful.proofs.RightLines.{AreRight}
 use Rattle.lawful.proofs.RunFacts.{right_of_rank}
 use Rattle.lawful.proofs.NewNumbers.{AllOf, IsKnown, IsKnownMessage, New, Numbers, called_numbers}
 use Rattle.lawful.proofs.KnownLines.{same_id, same_send, still_taken}
-use Rattle.lawful.proofs.SentRequests.{new_taken}
+use Rattle.lawful.proofs.SentRequests.{Sound, sound_first, sound_push, sound_all, send_push, new_taken, free_not_sent, both_false}
 use Rattle.lawful.proofs.NamedRequests.{chosen_known}
 
 -- ---- Requests ----
@@ -157,6 +159,8 @@ pub record More (placed : Placed) : Type 0 where
   pub chosen : (line : Line) → report_of report.Chose placed.entry ≡ Some line → AllOf (StaysOf placed.journal.lines later.lines) (requests_in (Some line))
   pub more : List Line
   pub lines : later.lines ≡ placed.journal.lines ++ more
+  pub sound : Sound placed.journal.lines
+  pub receives : (own : ℕ) → request_received placed.called ≡ Some own → is_of_send placed.journal.lines own ≡ false
 
 abbrev pub with_more : (placed : Placed) → More placed → Placed
 with_more placed it = record placed { journal = it.later; entry = it.entry; came_back = it.back }
@@ -189,8 +193,17 @@ no_call rank journal number comms (line ∷ lines) none =
 came_by : (journal : Journal) (entry : Entry) (lines : List Line) → has_call lines ≡ true → did_come_back journal entry lines ≡ true
 came_by journal entry lines has = rw has refl
 
-call_later : (rank : ℕ) (journal later : Journal) (number : ℕ) (comms : RankComms) (before : List Line) (word : CallWord) (fields : List Field) (lines more : List Line) → journal.lines ≡ before ++ record { word = CallLine word; fields = fields } ∷ lines → later.lines ≡ before ++ record { word = CallLine word; fields = fields } ∷ (lines ++ more) → AreRight before (record { word = CallLine word; fields = fields } ∷ (lines ++ more)) → NoneOut journal.lines later.lines → ((n : ℕ) (c : RankComms) → AreLater (entries_from rank journal n c lines) (entries_from rank later n c (lines ++ more))) → AreLater (entries_from rank journal number comms (record { word = CallLine word; fields = fields } ∷ lines)) (entries_from rank later number comms (record { word = CallLine word; fields = fields } ∷ (lines ++ more)))
-call_later rank journal later number comms before word fields lines more are also right out rest =
+-- the request of a started receive is new, and none of a send
+received_new : (before : List Line) (word : CallWord) (fields : List Field) (own : ℕ) (it : Called) → Numbers (New before word fields) (IsKnown before) (IsKnownMessage before) it → request_received it ≡ Some own → New before word fields own × (starts_send_with own it ≡ false)
+received_new before word fields own (StartsReceive request awaited) all h = (subst (New before word fields) (same_Some request own h) all, refl)
+received_new before word fields own (StartsExchange request received sent awaited) all h = (
+  subst (New before word fields) (same_Some received own h) all.1,
+  subst (λ (n : ℕ). (request == n) ≡ false) (same_Some received own h) all.2,
+)
+received_new before word fields own _ all h = absurd (none-some own h)
+
+call_later : (rank : ℕ) (journal later : Journal) (number : ℕ) (comms : RankComms) (before : List Line) (word : CallWord) (fields : List Field) (lines more : List Line) → journal.lines ≡ before ++ record { word = CallLine word; fields = fields } ∷ lines → later.lines ≡ before ++ record { word = CallLine word; fields = fields } ∷ (lines ++ more) → AreRight before (record { word = CallLine word; fields = fields } ∷ (lines ++ more)) → NoneOut journal.lines later.lines → Sound before → ((n : ℕ) (c : RankComms) → AreLater (entries_from rank journal n c lines) (entries_from rank later n c (lines ++ more))) → AreLater (entries_from rank journal number comms (record { word = CallLine word; fields = fields } ∷ lines)) (entries_from rank later number comms (record { word = CallLine word; fields = fields } ∷ (lines ++ more)))
+call_later rank journal later number comms before word fields lines more are also right out sound rest =
     (record { it = it; is = refl }, over, rest (number + 1) (after_line comms line))
   where
     line : Line
@@ -210,6 +223,14 @@ call_later rank journal later number comms before word fields lines more are als
         request_stays journal.lines later.lines (before ++ line ∷ []) lines more request (are ∙ sym (append_assoc before (line ∷ []) lines))
         (also ∙ sym (append_assoc before (line ∷ []) (lines ++ more))) right.1 (new_taken before word fields request is) out
 
+    receives : (own : ℕ) → request_received (called word fields) ≡ Some own → is_of_send journal.lines own ≡ false
+    receives own is =
+        let start = received_new before word fields own (called word fields) (called_numbers before word fields right.0) is in
+        subst (λ (ls : List Line). is_of_send ls own ≡ false) (append_assoc before (line ∷ []) lines ∙ sym are)
+        (same_send (before ++ line ∷ []) lines own (right_first (before ++ line ∷ []) lines more right.1) (new_taken before word fields own start.0)
+        ∙ send_push before line own
+        ∙ both_false (is_of_send before own) (starts_send_with own (called word fields)) (free_not_sent before own sound start.0.free) start.1)
+
     it : More (record {
       rank = rank;
       journal = journal;
@@ -228,6 +249,8 @@ call_later rank journal later number comms before word fields lines more are als
       chosen = λ one found. all_as (IsKnown before) Stays (requests_in (Some one)) (λ request is. known request is.taken) (chosen_known before word fields lines one right.0 (right_first (before ++ line ∷ []) lines more right.1) found);
       more = more;
       lines = also ∙ sym (append_assoc before (line ∷ lines) more) ∙ ap (λ (ls : List Line). ls ++ more) (sym are);
+      sound = subst Sound (sym are) (sound_all before (line ∷ lines) (right_first before (line ∷ lines) more right) sound);
+      receives = receives;
     }
 
     over_by : has_call lines ≡ true → IsOver (record {
@@ -276,21 +299,21 @@ call_later rank journal later number comms before word fields lines more are als
           | inr none ↦ inl (no_call rank journal (number + 1) (after_line comms line) lines none)
         ]
 
-line_later : (rank : ℕ) (journal later : Journal) (number : ℕ) (comms : RankComms) (before : List Line) (word : Word) (fields : List Field) (lines more : List Line) → journal.lines ≡ before ++ record { word = word; fields = fields } ∷ lines → later.lines ≡ before ++ record { word = word; fields = fields } ∷ (lines ++ more) → AreRight before (record { word = word; fields = fields } ∷ (lines ++ more)) → NoneOut journal.lines later.lines → ((n : ℕ) (c : RankComms) → AreLater (entries_from rank journal n c lines) (entries_from rank later n c (lines ++ more))) → AreLater (entries_from rank journal number comms (record { word = word; fields = fields } ∷ lines)) (entries_from rank later number comms (record { word = word; fields = fields } ∷ (lines ++ more)))
-line_later rank journal later number comms before (CallLine word) fields lines more are also right out rest =
-    call_later rank journal later number comms before word fields lines more are also right out rest
-line_later rank journal later number comms before (Report word) fields lines more are also right out rest =
+line_later : (rank : ℕ) (journal later : Journal) (number : ℕ) (comms : RankComms) (before : List Line) (word : Word) (fields : List Field) (lines more : List Line) → journal.lines ≡ before ++ record { word = word; fields = fields } ∷ lines → later.lines ≡ before ++ record { word = word; fields = fields } ∷ (lines ++ more) → AreRight before (record { word = word; fields = fields } ∷ (lines ++ more)) → NoneOut journal.lines later.lines → Sound before → ((n : ℕ) (c : RankComms) → AreLater (entries_from rank journal n c lines) (entries_from rank later n c (lines ++ more))) → AreLater (entries_from rank journal number comms (record { word = word; fields = fields } ∷ lines)) (entries_from rank later number comms (record { word = word; fields = fields } ∷ (lines ++ more)))
+line_later rank journal later number comms before (CallLine word) fields lines more are also right out sound rest =
+    call_later rank journal later number comms before word fields lines more are also right out sound rest
+line_later rank journal later number comms before (Report word) fields lines more are also right out sound rest =
     rest number_next (after_line comms (record { word = Report word; fields = fields }))
   where
     number_next : ℕ
     number_next = number + 1
 
-from_later : (rank : ℕ) (journal later : Journal) (number : ℕ) (comms : RankComms) (before lines more : List Line) → journal.lines ≡ before ++ lines → later.lines ≡ before ++ (lines ++ more) → AreRight before (lines ++ more) → NoneOut journal.lines later.lines → AreLater (entries_from rank journal number comms lines) (entries_from rank later number comms (lines ++ more))
-from_later rank journal later number comms before [] more are also right out = tt
-from_later rank journal later number comms before (line ∷ lines) more are also right out =
-    line_later rank journal later number comms before line.word line.fields lines more are also right out
+from_later : (rank : ℕ) (journal later : Journal) (number : ℕ) (comms : RankComms) (before lines more : List Line) → journal.lines ≡ before ++ lines → later.lines ≡ before ++ (lines ++ more) → AreRight before (lines ++ more) → NoneOut journal.lines later.lines → Sound before → AreLater (entries_from rank journal number comms lines) (entries_from rank later number comms (lines ++ more))
+from_later rank journal later number comms before [] more are also right out sound = tt
+from_later rank journal later number comms before (line ∷ lines) more are also right out sound =
+    line_later rank journal later number comms before line.word line.fields lines more are also right out sound
     (λ n c. from_later rank journal later n c (before ++ line ∷ []) lines more (are ∙ sym (append_assoc before (line ∷ []) lines))
-    (also ∙ sym (append_assoc before (line ∷ []) (lines ++ more))) right.1 out)
+    (also ∙ sym (append_assoc before (line ∷ []) (lines ++ more))) right.1 out (sound_push before line right.0 sound))
 
 first_empty : (lines more : List Line) → [] ≡ lines ++ more → lines ≡ []
 first_empty [] more is = refl
@@ -302,7 +325,7 @@ in_later rank (Some journal) None more lines right out =
     subst (λ (ls : List Line). AreLater (entries_from rank journal 2 (comms_first rank) ls) []) (sym (first_empty journal.lines more lines)) tt
 in_later rank (Some journal) (Some later) more lines right out =
     subst (λ (ls : List Line). AreLater (entries_in rank (Some journal)) (entries_from rank later 2 (comms_first rank) ls)) (sym lines)
-    (from_later rank journal later 2 (comms_first rank) [] journal.lines more refl lines (subst (λ (ls : List Line). AreRight [] ls) lines (right later refl)) out)
+    (from_later rank journal later 2 (comms_first rank) [] journal.lines more refl lines (subst (λ (ls : List Line). AreRight [] ls) lines (right later refl)) out sound_first)
 
 pub entries_later : (run longer : Run) (rank : ℕ) → IsRead longer → HasMore run longer rank → NoneIsGone run longer rank → NoneIsMoved run longer rank → AreLater (entries_at run rank) (entries_at longer rank)
 entries_later run longer rank read has gone moved =

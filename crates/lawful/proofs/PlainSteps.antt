@@ -181,7 +181,7 @@ entry_adds run choice placed old known used progress why plain fits stands =
 
 -- ---- Lists ----
 
-abbrev AreOf : List Line → List Placed → Type 0
+abbrev pub AreOf : List Line → List Placed → Type 0
 AreOf lines [] = ⊤
 AreOf lines (placed ∷ others) = (placed.journal.lines ≡ lines) × AreOf lines others
 
@@ -335,7 +335,7 @@ entries_are rank journal [] number comms = tt
 entries_are rank journal (line ∷ lines) number comms =
     entries_of_line rank journal number comms line.word line.fields lines (λ n c. entries_are rank journal lines n c)
 
-all_of : (rank : ℕ) (o : Option Journal) → AreOf (lines_in o) (entries_in rank o)
+pub all_of : (rank : ℕ) (o : Option Journal) → AreOf (lines_in o) (entries_in rank o)
 all_of rank None = tt
 all_of rank (Some journal) = entries_are rank journal journal.lines 2 (comms_first rank)
 

@@ -14,12 +14,12 @@ use Rattle.journals.specs.Known.{has_report, report_of}
 use Rattle.journals.specs.declared.word.ReportWord.TheVariants as report
 use Rattle.closing.specs.Called.{Called, Sent, Awaited, Receives, StartsReceive, Exchanges, StartsExchange, Probes, ProbesMatching, ReceivesMatched, Waits, Tests, WaitsAny, WaitsSome}
 use Rattle.closing.specs.RankComms.{makes_comm}
-use Rattle.closing.specs.Entries.{Run, Placed, entries_at, is_window}
+use Rattle.closing.specs.Entries.{Run, Placed, entries_at, is_window, journal_at, lines_at}
 use Rattle.closing.specs.Reported.{Message, done_of, got_in, is_gone, unless_moved, message_of}
-use Rattle.closing.specs.Numbers.{named_key}
+use Rattle.closing.specs.Numbers.{named_key, preface_of}
 use Rattle.closing.specs.Steps.{Own, Whole, Written, Progress, Step, Does, Starts, WaitsForAll, WaitsForOne, PutsOff, WaitsForLate, number_in, numbers_of, waits_for, wait_for_one, wait_one, plain, after_step, after_steps}
 use Rattle.closing.specs.Endings.{awaited_at, breaks_off, can_be, is_unknown, is_unreported, lacks_number, message_at, needs_number, number_at, why_at}
-use Rattle.closing.specs.Entry.{Choice, here_at, start_send, start_receive, on_comm, steps_by, steps_of, is_past}
+use Rattle.closing.specs.Entry.{Choice, is_of_send, here_at, start_send, start_receive, on_comm, steps_by, steps_of, is_past}
 use Rattle.closing.specs.Recording.{is_end, steps_before, outcome_by, outcome_in, go_on, list_from, progress_first, whole_list}
 use Rattle.closing.specs.Sinks.{Outcome, GoesOn, Ends, ends, blocks, sinks, starts_half, unsure, takes_by, takes_nothing, is_met, is_nobody, wanted_at, wanted_by, is_sound, by_call, request_received}
 use Rattle.closing.specs.declared.pending.Wanted.{Wanted}
@@ -29,7 +29,7 @@ use Rattle.lawful.specs.Longer.{IsKept, AllKept, is_silent}
 use Rattle.lawful.specs.LongerSinks.{IsWithin, AllStay, StayButLast, last_may_change, is_exchange, NoneIsFromNobody, WhatIsToldStaysWithSinks}
 use Rattle.lawful.proofs.ActiveSends.{AllSteps}
 use Rattle.lawful.proofs.NewNumbers.{Numbers}
-use Rattle.lawful.proofs.PlainSteps.{strict_past}
+use Rattle.lawful.proofs.PlainSteps.{AreOf, all_of, strict_past}
 use Rattle.lawful.proofs.SoFarLemmas.{list_grows}
 use Rattle.lawful.proofs.LongerLemmas.{StaysOf, More, with_more, IsOver, AreLater, entries_later}
 use Rattle.lawful.proofs.LongerSteps.{moved_stays, awaited_by, awaited_is, known_kept, message_kept, number_same}
@@ -37,7 +37,7 @@ use Rattle.lawful.proofs.LongerMakers.{over_maker, told_maker}
 use Rattle.lawful.proofs.LongerWaves.{waves_same}
 use Rattle.lawful.proofs.LongerWindows.{window_still}
 use Rattle.lawful.proofs.LongerLists.{steps_append, first_with}
-use Rattle.lawful.proofs.SinkStays.{Pairs, Alike, IsCall, pairs_same, pairs_stay, calls_alike}
+use Rattle.lawful.proofs.SinkStays.{plain_quiet, Pairs, Alike, IsCall, pairs_same, pairs_stay, calls_alike}
 use Rattle.lawful.proofs.SinkTakes.{met_stays, message_within, within_itself, nobody_known, wanted_comm, sink_step, still_alike, received_alike}
 use Rattle.lawful.proofs.SinkGoes.{Both, Fine, Comes, stops, Result, Silent, MakerStays, NamesNone, Case, BeforeNone, five, none_by, sound_at, sound_kept, in_by, unsound_result, none_result, waits_result, chooses_result}
 
@@ -203,17 +203,17 @@ abbrev blocks_if : Bool → Bool → Bool → List Step → List Step → Outcom
 blocks_if back none past pending steps =
     if not back then Ends pending Open (Some NeverCameBack) else if none then ends NeverCameBack else if past then GoesOn steps else ends NotJudged
 
-blocks_comes : (old new : Progress) (line : ℕ) (back none past : Bool) (pending steps : List Step) (other : Outcome) → past ≡ false → (back ≡ false → pending ≡ []) → Comes old new line (blocks_if back none past pending steps) other
-blocks_comes old new line false none past pending steps other strict empty = stops old new line pending (Some NeverCameBack) other (empty refl)
-blocks_comes old new line true true past pending steps other strict empty = stops old new line [] (Some NeverCameBack) other refl
-blocks_comes old new line true false past pending steps other strict empty =
-    subst (λ (b : Bool). Comes old new line (if b then GoesOn steps else ends NotJudged) other) (sym strict) (stops old new line [] (Some NotJudged) other refl)
+blocks_comes : (lines : List Line) (old new : Progress) (line : ℕ) (back none past : Bool) (pending steps : List Step) (other : Outcome) → past ≡ false → (back ≡ false → pending ≡ []) → Comes lines old new line (blocks_if back none past pending steps) other
+blocks_comes lines old new line false none past pending steps other strict empty = stops lines old new line pending (Some NeverCameBack) other (empty refl)
+blocks_comes lines old new line true true past pending steps other strict empty = stops lines old new line [] (Some NeverCameBack) other refl
+blocks_comes lines old new line true false past pending steps other strict empty =
+    subst (λ (b : Bool). Comes lines old new line (if b then GoesOn steps else ends NotJudged) other) (sym strict) (stops lines old new line [] (Some NotJudged) other refl)
 
 blocks_result : (run longer : Run) (choice : Choice) (placed : Placed) (it : More placed) (entries : List Placed) (old new : Progress) (pending steps : List Step) → Case run longer choice placed it entries old new → (placed.came_back ≡ false → pending ≡ []) → by_call run choice old.records placed placed.called ≡ Some (blocks choice placed pending steps) → Result run longer choice placed it entries old new
 blocks_result run longer choice placed it entries old new pending steps case empty is =
-    inl (subst (λ (one : Outcome). Comes old new placed.line one (outcome_in longer choice new.records (with_more placed it)))
+    inl (subst (λ (one : Outcome). Comes placed.journal.lines old new placed.line one (outcome_in longer choice new.records (with_more placed it)))
     (sym (in_by run choice old.records placed (Some (blocks choice placed pending steps)) case.both.with_sinks case.sound is))
-    (blocks_comes old new placed.line placed.came_back (is_none (message_at placed)) (is_past choice.calls placed) pending steps (outcome_in longer choice new.records (with_more placed it))
+    (blocks_comes placed.journal.lines old new placed.line placed.came_back (is_none (message_at placed)) (is_past choice.calls placed) pending steps (outcome_in longer choice new.records (with_more placed it))
     (strict_past choice placed case.both.strict) empty))
 
 or_right : (a b : Bool) → b ≡ true → (a || b) ≡ true
@@ -260,6 +260,7 @@ why_now run placed sound told known =
 -- some steps that are the same, and then the receive
 record Starting (run longer : Run) (choice : Choice) (placed : Placed) (it : More placed) (comm : ℕ) (awaited : Awaited) : Type 0 where
   request : ℕ
+  starts : request_received placed.called ≡ Some request
   first : List Step
   calls : AllSteps IsCall first
   now : is_out placed.journal.lines placed.called ≡ false → unsure choice placed (wanted_by comm awaited (message_at placed)) placed.called ≡ GoesOn (first ++ sink_step request (wanted_by comm awaited (message_at placed)) (is_some (message_at placed)) ∷ [])
@@ -273,14 +274,14 @@ some_message : (o : Option Message) → is_none o ≡ false → (m : Message) ×
 some_message None h = absurd (false≢true (sym h))
 some_message (Some m) h = (m, refl)
 
-append_alike : (old new : Progress) (line : ℕ) (first steps others : List Step) → Alike (after_steps (after_steps old line first) line steps) (after_steps (after_steps new line first) line others) → Alike (after_steps old line (first ++ steps)) (after_steps new line (first ++ others))
-append_alike old new line first steps others alike =
-    subst (λ (next : Progress). Alike next (after_steps new line (first ++ others))) (sym (steps_append old line first steps))
-    (subst (λ (next : Progress). Alike (after_steps (after_steps old line first) line steps) next) (sym (steps_append new line first others)) alike)
+append_alike : (lines : List Line) (old new : Progress) (line : ℕ) (first steps others : List Step) → Alike lines (after_steps (after_steps old line first) line steps) (after_steps (after_steps new line first) line others) → Alike lines (after_steps old line (first ++ steps)) (after_steps new line (first ++ others))
+append_alike lines old new line first steps others alike =
+    subst (λ (next : Progress). Alike lines next (after_steps new line (first ++ others))) (sym (steps_append old line first steps))
+    (subst (λ (next : Progress). Alike lines (after_steps (after_steps old line first) line steps) next) (sym (steps_append new line first others)) alike)
 
 start_result : (run longer : Run) (choice : Choice) (placed : Placed) (it : More placed) (entries : List Placed) (old new : Progress) (comm : ℕ) (awaited : Awaited) → Case run longer choice placed it entries old new → Awaiting run longer choice placed it old new comm awaited → Starting run longer choice placed it comm awaited → Sure run longer choice placed it entries old new comm awaited
 start_result run longer choice placed it entries old new comm awaited case wait begin some is =
-    inl (subst (λ (one : Outcome). Comes old new placed.line one (outcome_in longer choice new.records (with_more placed it)))
+    inl (subst (λ (one : Outcome). Comes placed.journal.lines old new placed.line one (outcome_in longer choice new.records (with_more placed it)))
     (sym (in_by run choice old.records placed (Some (unsure choice placed wanted placed.called)) case.both.with_sinks case.sound is ∙ begin.now some.stays))
     (by_met (is_none (message_at (with_more placed it)) || is_met new.records less) refl))
   where
@@ -299,29 +300,32 @@ start_result run longer choice placed it entries old new comm awaited case wait 
     later : number_at longer (with_more placed it) ≡ Some comm
     later = number_later run longer choice placed it comm case.both wait.number
 
-    middle : Alike (after_steps old placed.line begin.first) (after_steps new placed.line begin.first)
-    middle = calls_alike old new placed.line begin.first begin.calls case.alike
+    none : is_of_send placed.journal.lines begin.request ≡ false
+    none = it.receives begin.request begin.starts
+
+    middle : Alike placed.journal.lines (after_steps old placed.line begin.first) (after_steps new placed.line begin.first)
+    middle = calls_alike placed.journal.lines old new placed.line begin.first begin.calls case.alike
 
     call : (b : Bool) → (is_none (message_at (with_more placed it)) || is_met new.records less) ≡ b → by_call longer choice new.records (with_more placed it) placed.called ≡ (if b then Some (unsure choice (with_more placed it) less placed.called) else None)
     call b met = some_taken longer choice new.records (with_more placed it) comm awaited wait.later b wait.next later wait.also (something_still run longer placed it awaited case.fine some) met
 
-    by_met : (b : Bool) → (is_none (message_at (with_more placed it)) || is_met new.records less) ≡ b → Comes old new placed.line (GoesOn (begin.first ++ sink_step begin.request wanted (is_some (message_at placed)) ∷ [])) (outcome_in longer choice new.records (with_more placed it))
+    by_met : (b : Bool) → (is_none (message_at (with_more placed it)) || is_met new.records less) ≡ b → Comes placed.journal.lines old new placed.line (GoesOn (begin.first ++ sink_step begin.request wanted (is_some (message_at placed)) ∷ [])) (outcome_in longer choice new.records (with_more placed it))
     by_met true met =
-        subst (λ (one : Outcome). Comes old new placed.line (GoesOn (begin.first ++ sink_step begin.request wanted (is_some (message_at placed)) ∷ [])) one)
+        subst (λ (one : Outcome). Comes placed.journal.lines old new placed.line (GoesOn (begin.first ++ sink_step begin.request wanted (is_some (message_at placed)) ∷ [])) one)
         (sym (in_by longer choice new.records (with_more placed it) (Some (unsure choice (with_more placed it) less placed.called)) case.both.with_sinks sound (call true met) ∙ begin.still))
-        (append_alike old new placed.line begin.first (sink_step begin.request wanted (is_some (message_at placed)) ∷ []) (sink_step begin.request less (is_some (message_at (with_more placed it))) ∷ [])
-        (still_alike (after_steps old placed.line begin.first) (after_steps new placed.line begin.first) placed.line begin.request wanted less (is_some (message_at placed)) (is_some (message_at (with_more placed it))) middle within))
+        (append_alike placed.journal.lines old new placed.line begin.first (sink_step begin.request wanted (is_some (message_at placed)) ∷ []) (sink_step begin.request less (is_some (message_at (with_more placed it))) ∷ [])
+        (still_alike placed.journal.lines (after_steps old placed.line begin.first) (after_steps new placed.line begin.first) placed.line begin.request wanted less (is_some (message_at placed)) (is_some (message_at (with_more placed it))) middle none within))
     by_met false met =
         let parts = or_parts (is_none (message_at (with_more placed it))) (is_met new.records less) met in
         let m = some_message (message_at (with_more placed it)) parts.0 in
         let why = why_now longer (with_more placed it) sound (begin.told parts.0) begin.known in
-        subst (λ (one : Outcome). Comes old new placed.line (GoesOn (begin.first ++ sink_step begin.request wanted (is_some (message_at placed)) ∷ [])) one)
+        subst (λ (one : Outcome). Comes placed.journal.lines old new placed.line (GoesOn (begin.first ++ sink_step begin.request wanted (is_some (message_at placed)) ∷ [])) one)
         (sym (in_by longer choice new.records (with_more placed it) None case.both.with_sinks sound (call false met)
         ∙ ap (λ (o : Option Why). outcome_by longer choice (with_more placed it) o) why
         ∙ ap (λ (b : Bool). if b then Ends (WaitsForLate ∷ []) Finalize None else GoesOn (steps_of longer choice (with_more placed it))) begin.no_end
         ∙ ap (λ (steps : List Step). GoesOn steps) (begin.received m.0 m.1 some.stays)))
-        (append_alike old new placed.line begin.first (sink_step begin.request wanted (is_some (message_at placed)) ∷ []) (Starts (Own begin.request) (start_receive comm m.0) ∷ [])
-        (received_alike (after_steps old placed.line begin.first) (after_steps new placed.line begin.first) placed.line begin.request comm wanted (is_some (message_at placed)) m.0 middle
+        (append_alike placed.journal.lines old new placed.line begin.first (sink_step begin.request wanted (is_some (message_at placed)) ∷ []) (Starts (Own begin.request) (start_receive comm m.0) ∷ [])
+        (received_alike placed.journal.lines (after_steps old placed.line begin.first) (after_steps new placed.line begin.first) placed.line begin.request comm wanted (is_some (message_at placed)) m.0 middle none
         (wanted_comm comm awaited (message_at placed)) (subst (λ (o : Option Message). IsWithin (wanted_by comm awaited o) wanted) m.1 within)))
 
 -- ---- By the call ----
@@ -363,7 +367,7 @@ send_if comm request sent gone = if gone then [] else Starts (Own request) (star
 
 calls_if : (comm request : ℕ) (sent : Sent) (gone : Bool) → AllSteps IsCall (send_if comm request sent gone)
 calls_if comm request sent true = tt
-calls_if comm request sent false = (tt, tt)
+calls_if comm request sent false = (λ other. refl, tt)
 
 steps_on : (run : Run) (choice : Choice) (placed : Placed) (comm : ℕ) (one : Called) → number_at run placed ≡ Some comm → placed.called ≡ one → steps_of run choice placed ≡ on_comm (here_at run choice placed comm) one
 steps_on run choice placed comm one number is =
@@ -372,6 +376,7 @@ steps_on run choice placed comm one number is =
 receive_starts : (run longer : Run) (choice : Choice) (placed : Placed) (it : More placed) (comm request : ℕ) (said awaited : Awaited) → placed.called ≡ StartsReceive request said → number_at longer (with_more placed it) ≡ Some comm → StaysOf placed.journal.lines it.later.lines request → Starting run longer choice placed it comm awaited
 receive_starts run longer choice placed it comm request said awaited is number stays = record {
   request = request;
+  starts = ap (λ (c : Called). request_received c) is;
   first = [];
   calls = tt;
   now = λ out. ap (λ (c : Called). unsure choice placed (wanted_by comm awaited (message_at placed)) c) is;
@@ -387,6 +392,7 @@ receive_starts run longer choice placed it comm request said awaited is number s
 exchange_starts : (run longer : Run) (choice : Choice) (placed : Placed) (it : More placed) (comm request received : ℕ) (sent : Sent) (said awaited : Awaited) → placed.called ≡ StartsExchange request received sent said → number_at longer (with_more placed it) ≡ Some comm → StaysOf placed.journal.lines it.later.lines request → StaysOf placed.journal.lines it.later.lines received → Starting run longer choice placed it comm awaited
 exchange_starts run longer choice placed it comm request received sent said awaited is number sends receives = record {
   request = received;
+  starts = ap (λ (c : Called). request_received c) is;
   first = send_if comm request sent (is_gone placed.journal.lines request);
   calls = calls_if comm request sent (is_gone placed.journal.lines request);
   now = λ out. ap (λ (c : Called). unsure choice placed (wanted_by comm awaited (message_at placed)) c) is
@@ -549,27 +555,27 @@ stay_more : (placed : Placed) (entries : List Placed) (old new : List Written) �
 stay_more placed entries old new (inl stay) = inl stay
 stay_more placed entries old new (inr but) = inr (may_more placed entries but.0, but.1)
 
-empty_stays : (old new : Progress) (line : ℕ) (steps : List Step) (all : List Written) → Alike old new → steps ≡ [] → (rest : List Written) × (all ≡ new.records ++ rest) → AllStay (after_steps old line steps).records all
-empty_stays old new line steps all alike none grows =
+empty_stays : (lines : List Line) (old new : Progress) (line : ℕ) (steps : List Step) (all : List Written) → Alike lines old new → steps ≡ [] → (rest : List Written) × (all ≡ new.records ++ rest) → AllStay (after_steps old line steps).records all
+empty_stays lines old new line steps all alike none grows =
     subst (λ (ss : List Step). AllStay (after_steps old line ss).records all) (sym none) (stay_grown old.records new.records all alike.records grows)
 
-abbrev Rest : Run → Run → Choice → List Placed → List Placed → Type 0
-Rest run longer choice entries others = (old new : Progress) → Alike old new → StayBut entries (list_from run choice old entries).records (list_from longer choice new others).records
+abbrev Rest : Run → Run → Choice → List Line → List Placed → List Placed → Type 0
+Rest run longer choice lines entries others = (old new : Progress) → Alike lines old new → StayBut entries (list_from run choice old entries).records (list_from longer choice new others).records
 
-comes_stay : (run longer : Run) (choice : Choice) (placed : Placed) (entries others : List Placed) (old new : Progress) (one other : Outcome) → Alike old new → Comes old new placed.line one other → (rest : List Written) × ((go_on new placed.line other (λ next. list_from longer choice next others)).records ≡ new.records ++ rest) → Rest run longer choice entries others → StayBut (placed ∷ entries) (go_on old placed.line one (λ next. list_from run choice next entries)).records (go_on new placed.line other (λ next. list_from longer choice next others)).records
+comes_stay : (run longer : Run) (choice : Choice) (placed : Placed) (entries others : List Placed) (old new : Progress) (one other : Outcome) → Alike placed.journal.lines old new → Comes placed.journal.lines old new placed.line one other → (rest : List Written) × ((go_on new placed.line other (λ next. list_from longer choice next others)).records ≡ new.records ++ rest) → Rest run longer choice placed.journal.lines entries others → StayBut (placed ∷ entries) (go_on old placed.line one (λ next. list_from run choice next entries)).records (go_on new placed.line other (λ next. list_from longer choice next others)).records
 comes_stay run longer choice placed entries others old new (GoesOn steps) (GoesOn also) alike comes grows rest =
     stay_more placed entries (list_from run choice (after_steps old placed.line steps) entries).records (list_from longer choice (after_steps new placed.line also) others).records
     (rest (after_steps old placed.line steps) (after_steps new placed.line also) comes)
 comes_stay run longer choice placed entries others old new (GoesOn steps) (Ends also end why) alike comes grows rest = absurd comes
 comes_stay run longer choice placed entries others old new (Ends steps end why) (GoesOn also) alike comes grows rest =
-    inl (empty_stays old new placed.line steps (list_from longer choice (after_steps new placed.line also) others).records alike comes grows)
+    inl (empty_stays placed.journal.lines old new placed.line steps (list_from longer choice (after_steps new placed.line also) others).records alike comes grows)
 comes_stay run longer choice placed entries others old new (Ends steps end why) (Ends also last reason) alike (inl none) grows rest =
-    inl (empty_stays old new placed.line steps (after_steps new placed.line also).records alike none grows)
+    inl (empty_stays placed.journal.lines old new placed.line steps (after_steps new placed.line also).records alike none grows)
 comes_stay run longer choice placed entries others old new (Ends steps end why) (Ends also last reason) alike (inr next) grows rest =
     inl (stay_grown (after_steps old placed.line steps).records (after_steps new placed.line also).records (after_steps new placed.line also).records next.records
     ([], sym (append-nil (after_steps new placed.line also).records)))
 
-result_stays : (run longer : Run) (choice : Choice) (placed : Placed) (it : More placed) (entries others : List Placed) (old new : Progress) → Alike old new → Result run longer choice placed it entries old new → Rest run longer choice entries others → StayBut (placed ∷ entries) (list_from run choice old (placed ∷ entries)).records (list_from longer choice new (with_more placed it ∷ others)).records
+result_stays : (run longer : Run) (choice : Choice) (placed : Placed) (it : More placed) (entries others : List Placed) (old new : Progress) → Alike placed.journal.lines old new → Result run longer choice placed it entries old new → Rest run longer choice placed.journal.lines entries others → StayBut (placed ∷ entries) (list_from run choice old (placed ∷ entries)).records (list_from longer choice new (with_more placed it ∷ others)).records
 result_stays run longer choice placed it entries others old new alike (inl comes) rest =
     comes_stay run longer choice placed entries others old new (outcome_in run choice old.records placed) (outcome_in longer choice new.records (with_more placed it)) alike comes
     (list_grows longer choice (with_more placed it ∷ others) new) rest
@@ -591,7 +597,7 @@ record Runs (run longer : Run) (choice : Choice) : Type 0 where
   both : Both run longer choice
   makers : (placed : Placed) (it : More placed) (entries : List Placed) → (entries ≡ []) ⊎ IsOver placed (with_more placed it) → Silent run longer placed it entries
 
-sunk_entry : (run longer : Run) (choice : Choice) (placed : Placed) (it : More placed) (entries : List Placed) (old new : Progress) → Runs run longer choice → Fine run longer placed it → (entries ≡ []) ⊎ IsOver placed (with_more placed it) → Alike old new → Result run longer choice placed it entries old new
+sunk_entry : (run longer : Run) (choice : Choice) (placed : Placed) (it : More placed) (entries : List Placed) (old new : Progress) → Runs run longer choice → Fine run longer placed it → (entries ≡ []) ⊎ IsOver placed (with_more placed it) → Alike placed.journal.lines old new → Result run longer choice placed it entries old new
 sunk_entry run longer choice placed it entries old new whole fine over alike = by_sound (is_sound run placed) refl
   where
     by_sound : (b : Bool) → is_sound run placed ≡ b → Result run longer choice placed it entries old new
@@ -600,20 +606,21 @@ sunk_entry run longer choice placed it entries old new whole fine over alike = b
         call_result run longer choice placed it entries old new placed.called refl it.numbers
         (record { both = whole.both; fine = fine; alike = alike; silent = whole.makers placed it entries over; sound = sound; over = over })
 
-lists_sunk : (run longer : Run) (choice : Choice) (entries others : List Placed) (old new : Progress) → Runs run longer choice → AreLater entries others → AllKept run longer entries others → NoneIsFromNobody entries others → Alike old new → StayBut entries (list_from run choice old entries).records (list_from longer choice new others).records
-lists_sunk run longer choice [] others old new whole all kept nobody alike =
+lists_sunk : (run longer : Run) (choice : Choice) (lines : List Line) (entries others : List Placed) (old new : Progress) → Runs run longer choice → AreOf lines entries → AreLater entries others → AllKept run longer entries others → NoneIsFromNobody entries others → Alike lines old new → StayBut entries (list_from run choice old entries).records (list_from longer choice new others).records
+lists_sunk run longer choice lines [] others old new whole own all kept nobody alike =
     inl (stay_grown old.records new.records (list_from longer choice new others).records alike.records (list_grows longer choice others new))
-lists_sunk run longer choice (placed ∷ entries) [] old new whole all kept nobody alike = absurd all
-lists_sunk run longer choice (placed ∷ entries) (other ∷ others) old new whole all kept nobody alike =
+lists_sunk run longer choice lines (placed ∷ entries) [] old new whole own all kept nobody alike = absurd all
+lists_sunk run longer choice lines (placed ∷ entries) (other ∷ others) old new whole own all kept nobody alike =
     let it = all.0.it in
+    let here : Alike placed.journal.lines old new = subst (λ (ls : List Line). Alike ls old new) (sym own.0) alike in
     let fine : Fine run longer placed it = record {
       kept = subst (λ (one : Placed). IsKept run longer placed one) all.0.is kept.0;
       nobody = subst (λ (one : Placed). (m : Message) → message_at placed ≡ None → message_at one ≡ Some m → is_nobody m.source ≡ false) all.0.is nobody.0;
     } in
     subst (λ (one : Placed). StayBut (placed ∷ entries) (list_from run choice old (placed ∷ entries)).records (list_from longer choice new (one ∷ others)).records) (sym all.0.is)
-    (result_stays run longer choice placed it entries others old new alike
-    (sunk_entry run longer choice placed it entries old new whole fine (subst (λ (one : Placed). (entries ≡ []) ⊎ IsOver placed one) all.0.is all.1) alike)
-    (λ next also still. lists_sunk run longer choice entries others next also whole all.2 kept.1 nobody.1 still))
+    (result_stays run longer choice placed it entries others old new here
+    (sunk_entry run longer choice placed it entries old new whole fine (subst (λ (one : Placed). (entries ≡ []) ⊎ IsOver placed one) all.0.is all.1) here)
+    (λ next also still. lists_sunk run longer choice lines entries others next also whole own.1 all.2 kept.1 nobody.1 (subst (λ (ls : List Line). Alike ls next also) own.0 still)))
 
 -- ---- A rank ----
 
@@ -623,24 +630,25 @@ makers_by run longer placed it entries true (Some one) told last is line = inl (
 makers_by run longer placed it entries true None told last is line = inr (last, is, rw (is, line) refl)
 
 pub what_is_told_stays_with_sinks : WhatIsToldStaysWithSinks
-what_is_told_stays_with_sinks run longer choice rank strict with_sinks waits read read_longer long kept nobody =
+what_is_told_stays_with_sinks run longer choice rank strict with_sinks read read_longer long kept nobody =
     let all = λ (other : ℕ). entries_later run longer other read_longer (long.more other) (long.none_gone other) (long.none_moved other) in
     let waves = waves_same run longer read long.ranks long.numbers all in
     let whole : Runs run longer choice = record {
-      both = record { strict = strict; with_sinks = with_sinks; as_waits = waits; numbers = long.numbers; windows = window_still run longer read_longer long.ranks long.more };
+      both = record { strict = strict; with_sinks = with_sinks; numbers = long.numbers; windows = window_still run longer read_longer long.ranks long.more };
       makers = λ placed it entries over. elim over [
         | inl last ↦ makers_by run longer placed it entries (makes_comm placed.called) (report_of report.Comm placed.entry)
             (λ line is makes also comm. told_maker run longer placed it comm line long.ranks long.numbers waves makes is) last refl refl
         | inr is ↦ inl (λ also comm. over_maker run longer placed it comm long.ranks long.numbers waves is)
       ];
     } in
-    let first : Alike (progress_first run rank) (progress_first run rank) = record {
+    let first : Alike (lines_at run rank) (progress_first run rank) (progress_first run rank) = record {
       records = pairs_same (progress_first run rank).records;
       active = tt;
       late = refl;
-      also_late = refl;
+      sends = tt;
+      quiet = λ request sent. plain_quiet request 0 (preface_of run rank);
       covers = λ request none. refl;
     } in
     subst (λ (progress : Progress). StayBut (entries_at run rank) (whole_list run choice rank).records (list_from longer choice progress (entries_at longer rank)).records)
     (sym (ap (λ (calls : List Call). first_with calls) (long.prefaces rank)))
-    (lists_sunk run longer choice (entries_at run rank) (entries_at longer rank) (progress_first run rank) (progress_first run rank) whole (all rank) kept nobody first)
+    (lists_sunk run longer choice (lines_at run rank) (entries_at run rank) (entries_at longer rank) (progress_first run rank) (progress_first run rank) whole (all_of rank (journal_at run rank)) (all rank) kept nobody first)

@@ -3,7 +3,7 @@ use Rattle.std.proofs.Common.{◌≡◌, ◌⊎◌, ℕ, ◌&&◌, ◌||◌, not
 use Rattle.std.specs.Prelude.{⊤, option_and_then, unwrap_or}
 use Rattle.std.specs.List.{list_any}
 use Rattle.std.specs.Option.{option_map_or}
-use Rattle.std.proofs.lemmas.Bool.{false≢true, or_parts}
+use Rattle.std.proofs.lemmas.Bool.{cases_Bool, false≢true, or_parts}
 use Rattle.std.proofs.lemmas.Option.{none-some, same_Some}
 use Rattle.mpicall.specs.Word.{or_else}
 use Rattle.mpicall.specs.declared.call.Call.TheVariants.{Finalize, Open}
@@ -16,9 +16,9 @@ use Rattle.closing.specs.RankComms.{makes_comm}
 use Rattle.closing.specs.Entries.{Run, Placed, is_window}
 use Rattle.closing.specs.Numbers.{named_key, number_of}
 use Rattle.closing.specs.Reported.{Message, is_left_out}
-use Rattle.closing.specs.Steps.{Id, Written, Progress, Step, WaitsForLate, after_steps}
+use Rattle.closing.specs.Steps.{Id, Written, Progress, Step, WaitsForAll, WaitsForLate, after_step, after_steps}
 use Rattle.closing.specs.Endings.{breaks_off, can_be, chose_none, first_of, is_unknown, is_unreported, lacks_number, message_at, needs_number, number_at, why_at}
-use Rattle.closing.specs.Entry.{Choice, here_at, id_of, ids_of, maker, matched_message, chosen, passes_tests, pass_test, wait_for_all, wait_for_one, unless_past, on_comm, on_none, steps_by, steps_of}
+use Rattle.closing.specs.Entry.{Choice, here_at, id_of, is_of_send, ids_of, maker, matched_message, chosen, passes_tests, pass_test, wait_for_all, wait_for_one, unless_past, on_comm, on_none, steps_by, steps_of}
 use Rattle.closing.specs.Recording.{is_end, steps_before, outcome_by, outcome_of, outcome_in, go_on, list_from}
 use Rattle.closing.specs.Sinks.{Outcome, GoesOn, Ends, ends, is_nobody, name_sink, sink_for, waits_by, chooses_by, is_sound, by_call, outcome_by_sinks}
 use Rattle.closing.specs.declared.choice.Calls.TheVariants.{Strict}
@@ -34,13 +34,13 @@ use Rattle.lawful.proofs.PlainSteps.{strict_past}
 use Rattle.lawful.proofs.LongerLemmas.{StaysOf, More, with_more, IsOver}
 use Rattle.lawful.proofs.LongerSteps.{breaks_kept, can_stay, chose_by, chosen_stays, ids_stay, number_same, steps_stay, why_stays}
 use Rattle.lawful.proofs.LongerLists.{maker_no_end}
-use Rattle.lawful.proofs.SinkStays.{Pairs, Alike, Clear, IsCall, has_sink, is_active_sink, sinks_stay, none_sunk, none_found, calls_alike, all_alike, one_alike, late_alike}
+use Rattle.lawful.proofs.SentRequests.{Sound as SoundLines}
+use Rattle.lawful.proofs.SinkStays.{AreSends, a_send, put_off_alike, Pairs, Alike, Clear, IsCall, has_sink, is_active_sink, sinks_stay, none_sunk, none_found, calls_alike, all_alike, one_alike, late_alike}
 
 -- both runs have the same of communicators
 pub record Both (run longer : Run) (choice : Choice) : Type 0 where
   pub strict : choice.calls ≡ Strict
   pub with_sinks : choice.unreported ≡ unreported.Sinks
-  pub as_waits : passes_tests choice.tests choice.calls ≡ false
   pub numbers : (key : Key) → number_of longer key ≡ number_of run key
   pub windows : is_window run ≡ true → is_window longer ≡ true
 
@@ -52,15 +52,15 @@ pub record Fine (run longer : Run) (placed : Placed) (it : More placed) : Type 0
 -- ---- Outcomes ----
 
 -- what comes of an entry in both: the list ends and has nothing of it, or it goes on or ends alike
-abbrev pub Comes : Progress → Progress → ℕ → Outcome → Outcome → Type 0
-Comes old new line (GoesOn steps) (GoesOn others) = Alike (after_steps old line steps) (after_steps new line others)
-Comes old new line (GoesOn steps) (Ends others end why) = ⊥
-Comes old new line (Ends steps end why) (GoesOn others) = steps ≡ []
-Comes old new line (Ends steps end why) (Ends others also reason) = (steps ≡ []) ⊎ Alike (after_steps old line steps) (after_steps new line others)
+abbrev pub Comes : List Line → Progress → Progress → ℕ → Outcome → Outcome → Type 0
+Comes lines old new line (GoesOn steps) (GoesOn others) = Alike lines (after_steps old line steps) (after_steps new line others)
+Comes lines old new line (GoesOn steps) (Ends others end why) = ⊥
+Comes lines old new line (Ends steps end why) (GoesOn others) = steps ≡ []
+Comes lines old new line (Ends steps end why) (Ends others also reason) = (steps ≡ []) ⊎ Alike lines (after_steps old line steps) (after_steps new line others)
 
-pub stops : (old new : Progress) (line : ℕ) (steps : List Step) (why : Option Why) (other : Outcome) → steps ≡ [] → Comes old new line (Ends steps Open why) other
-stops old new line steps why (GoesOn others) none = none
-stops old new line steps why (Ends others end reason) none = inl none
+pub stops : (lines : List Line) (old new : Progress) (line : ℕ) (steps : List Step) (why : Option Why) (other : Outcome) → steps ≡ [] → Comes lines old new line (Ends steps Open why) other
+stops lines old new line steps why (GoesOn others) none = none
+stops lines old new line steps why (Ends others end reason) none = inl none
 
 -- the last call, whose records may be others
 pub record IsLast (run : Run) (choice : Choice) (placed : Placed) (entries : List Placed) (old : Progress) : Type 0 where
@@ -70,7 +70,7 @@ pub record IsLast (run : Run) (choice : Choice) (placed : Placed) (entries : Lis
 
 abbrev pub Result : Run → Run → Choice → (placed : Placed) → More placed → List Placed → Progress → Progress → Type 0
 Result run longer choice placed it entries old new =
-    Comes old new placed.line (outcome_in run choice old.records placed) (outcome_in longer choice new.records (with_more placed it))
+    Comes placed.journal.lines old new placed.line (outcome_in run choice old.records placed) (outcome_in longer choice new.records (with_more placed it))
     ⊎ IsLast run choice placed entries old
 
 -- ---- Sound calls ----
@@ -153,19 +153,19 @@ unsound_result run longer choice placed it entries old new both h =
     in_sinks run choice old.records placed both.with_sinks
     ∙ ap (λ (b : Bool). unwrap_or (if b then by_call run choice old.records placed placed.called else None) (outcome_of run choice placed)) h
     ∙ ap (λ (o : Option Why). outcome_by run choice placed o) (same ∙ why.1) in
-    inl (subst (λ (one : Outcome). Comes old new placed.line one (outcome_in longer choice new.records (with_more placed it))) (sym is)
-    (stops old new placed.line (steps_before run choice placed placed.called why.0) (Some why.0) (outcome_in longer choice new.records (with_more placed it))
+    inl (subst (λ (one : Outcome). Comes placed.journal.lines old new placed.line one (outcome_in longer choice new.records (with_more placed it))) (sym is)
+    (stops placed.journal.lines old new placed.line (steps_before run choice placed placed.called why.0) (Some why.0) (outcome_in longer choice new.records (with_more placed it))
     (before_three run choice placed placed.called (is_window run) (has_report report.Failed placed.entry) (not (can_be run placed)) (lacks_number run placed) why.0 why.1)))
 
 -- ---- Steps without sinks ----
 
 own_calls : (it : Called) → PassOwn IsCall it
-own_calls (StartsSend own mode sent) = λ comm. tt
-own_calls (StartsReceive own awaited) = λ comm it. tt
-own_calls (StartsExchange own received sent awaited) = (λ comm. tt, λ comm it. tt)
-own_calls (ProbesMatching own awaited) = λ comm it. tt
-own_calls (StartsCollective own collective comm root) = λ comm. tt
-own_calls (StartsDuplicate own comm) = λ comm. tt
+own_calls (StartsSend own mode sent) = λ comm request. refl
+own_calls (StartsReceive own awaited) = λ comm it request. refl
+own_calls (StartsExchange own received sent awaited) = (λ comm request. refl, λ comm it request. refl)
+own_calls (ProbesMatching own awaited) = λ comm it request. refl
+own_calls (StartsCollective own collective comm root) = λ comm request. refl
+own_calls (StartsDuplicate own comm) = λ comm request. refl
 own_calls _ = tt
 
 abbrev pub NamesNone : List Written → Placed → Called → Type 0
@@ -188,40 +188,92 @@ clear_map lines records active (request ∷ requests) covers none =
       clear_map lines records active requests covers parts.1,
     )
 
-clear_ids : (old new : Progress) (placed : Placed) (requests : List ℕ) → Alike old new → name_sink old.records placed requests ≡ false → Clear old.active (ids_of placed.journal.lines requests)
+clear_ids : (old new : Progress) (placed : Placed) (requests : List ℕ) → Alike placed.journal.lines old new → name_sink old.records placed requests ≡ false → Clear old.active (ids_of placed.journal.lines requests)
 clear_ids old new placed requests alike none =
     clear_map placed.journal.lines old.records old.active (filter (λ request. not (is_left_out placed.journal.lines request)) requests) alike.covers none
 
-one_of : (old new : Progress) (line : ℕ) (ids named : List Id) → Clear old.active ids → Alike old new → Alike (after_steps old line (wait_for_one ids named)) (after_steps new line (wait_for_one ids named))
-one_of old new line [] named clear alike = alike
-one_of old new line (id ∷ ids) named clear alike = one_alike old new line id named clear.0 alike
+one_of : (lines : List Line) (old new : Progress) (line : ℕ) (ids named : List Id) → Clear old.active ids → Alike lines old new → Alike lines (after_steps old line (wait_for_one ids named)) (after_steps new line (wait_for_one ids named))
+one_of lines old new line [] named clear alike = alike
+one_of lines old new line (id ∷ ids) named clear alike = one_alike lines old new line id named clear.0 alike
 
-waits_alike : (old new : Progress) (placed : Placed) (requests : List ℕ) → Alike old new → name_sink old.records placed requests ≡ false → Alike (after_steps old placed.line (wait_for_all placed.journal.lines requests)) (after_steps new placed.line (wait_for_all placed.journal.lines requests))
-waits_alike old new placed requests alike none = all_alike old new placed.line (ids_of placed.journal.lines requests) (clear_ids old new placed requests alike none) alike
+waits_alike : (old new : Progress) (placed : Placed) (requests : List ℕ) → Alike placed.journal.lines old new → name_sink old.records placed requests ≡ false → Alike placed.journal.lines (after_steps old placed.line (wait_for_all placed.journal.lines requests)) (after_steps new placed.line (wait_for_all placed.journal.lines requests))
+waits_alike old new placed requests alike none = all_alike placed.journal.lines old new placed.line (ids_of placed.journal.lines requests) (clear_ids old new placed requests alike none) alike
 
-none_alike : (choice : Choice) (old new : Progress) (placed : Placed) (it : Called) → passes_tests choice.tests choice.calls ≡ false → Alike old new → NamesNone old.records placed it → Alike (after_steps old placed.line (on_none choice placed placed.journal.lines it)) (after_steps new placed.line (on_none choice placed placed.journal.lines it))
-none_alike choice old new placed (ReceivesMatched message) waits alike none = waits_alike old new placed (message ∷ []) alike none
-none_alike choice old new placed (Waits requests) waits alike none = waits_alike old new placed requests alike none
-none_alike choice old new placed (Tests requests) waits alike none =
-    subst (λ (b : Bool). Alike (after_steps old placed.line (if b then pass_test placed.journal.lines requests else wait_for_all placed.journal.lines requests)) (after_steps new placed.line (if b then pass_test placed.journal.lines requests else wait_for_all placed.journal.lines requests)))
-    (sym waits) (waits_alike old new placed requests alike none)
-none_alike choice old new placed (WaitsAny []) waits alike none =
-    one_of old new placed.line (ids_of placed.journal.lines (chosen placed [])) (ids_of placed.journal.lines []) (clear_ids old new placed (chosen placed []) alike none) alike
-none_alike choice old new placed (WaitsAny (request ∷ [])) waits alike none = waits_alike old new placed (request ∷ []) alike none
-none_alike choice old new placed (WaitsAny (one ∷ two ∷ requests)) waits alike none =
-    one_of old new placed.line (ids_of placed.journal.lines (chosen placed (one ∷ two ∷ requests))) (ids_of placed.journal.lines (one ∷ two ∷ requests))
+-- of fewer requests none is a sink's either
+clear_fewer : (lines : List Line) (active : List (Id × ℕ)) (test : ℕ → Bool) (requests : List ℕ) → Clear active (ids_of lines requests) → Clear active (ids_of lines (filter test requests))
+clear_fewer lines active test [] all = tt
+clear_fewer lines active test (request ∷ requests) all =
+    elim (cases_Bool (is_left_out lines request)) [
+      | inl out ↦
+          let rest : Clear active (ids_of lines requests) = rw out at all in
+          elim (cases_Bool (test request)) [
+            | inl stays ↦ rw (stays, out) (clear_fewer lines active test requests rest)
+            | inr goes ↦ rw goes (clear_fewer lines active test requests rest)
+          ]
+      | inr named ↦
+          let both : Clear active (id_of lines request ∷ ids_of lines requests) = rw named at all in
+          elim (cases_Bool (test request)) [
+            | inl stays ↦ rw (stays, named) (both.0, clear_fewer lines active test requests both.1)
+            | inr goes ↦ rw goes (clear_fewer lines active test requests both.1)
+          ]
+    ]
+
+unmatched : (lines : List Line) (request : ℕ) (o : Option ℕ) → SoundLines lines → is_of_send lines request ≡ true → matched_message lines request ≡ o → o ≡ None
+unmatched lines request None sound sent is = refl
+unmatched lines request (Some message) sound sent is = absurd (false≢true (sym (sound.receives request message is).0 ∙ sent))
+
+sent_of : (lines : List Line) (requests : List ℕ) → SoundLines lines → AreSends lines (ids_of lines (filter (is_of_send lines) requests))
+sent_of lines [] sound = tt
+sent_of lines (request ∷ requests) sound =
+    elim (cases_Bool (is_of_send lines request)) [
+      | inl sent ↦
+          elim (cases_Bool (is_left_out lines request)) [
+            | inl out ↦ rw (sent, out) (sent_of lines requests sound)
+            | inr named ↦ rw (sent, named) (
+              a_send lines request (unmatched lines request (matched_message lines request) sound sent refl) sent,
+              sent_of lines requests sound,
+            )
+          ]
+      | inr other ↦ rw other (sent_of lines requests sound)
+    ]
+
+-- a test that is passed puts off the requests of sends
+passes_alike : (old new : Progress) (placed : Placed) (requests : List ℕ) → SoundLines placed.journal.lines → Alike placed.journal.lines old new → name_sink old.records placed requests ≡ false → Alike placed.journal.lines (after_steps old placed.line (pass_test placed.journal.lines requests)) (after_steps new placed.line (pass_test placed.journal.lines requests))
+passes_alike old new placed requests sound alike none =
+    let lines = placed.journal.lines in
+    let ids = ids_of lines (filter (λ request. not (is_of_send lines request)) requests) in
+    put_off_alike lines (after_step old placed.line (WaitsForAll ids)) (after_step new placed.line (WaitsForAll ids)) placed.line
+    (ids_of lines (filter (is_of_send lines) requests)) (sent_of lines requests sound)
+    (all_alike lines old new placed.line ids (clear_fewer lines old.active (λ request. not (is_of_send lines request)) requests (clear_ids old new placed requests alike none)) alike)
+
+none_alike : (choice : Choice) (old new : Progress) (placed : Placed) (it : Called) → SoundLines placed.journal.lines → Alike placed.journal.lines old new → NamesNone old.records placed it → Alike placed.journal.lines (after_steps old placed.line (on_none choice placed placed.journal.lines it)) (after_steps new placed.line (on_none choice placed placed.journal.lines it))
+none_alike choice old new placed (ReceivesMatched message) sound alike none = waits_alike old new placed (message ∷ []) alike none
+none_alike choice old new placed (Waits requests) sound alike none = waits_alike old new placed requests alike none
+none_alike choice old new placed (Tests requests) sound alike none = by_tests (passes_tests choice.tests choice.calls)
+  where
+    tested : Bool → List Step
+    tested b = if b then pass_test placed.journal.lines requests else wait_for_all placed.journal.lines requests
+
+    by_tests : (b : Bool) → Alike placed.journal.lines (after_steps old placed.line (tested b)) (after_steps new placed.line (tested b))
+    by_tests true = passes_alike old new placed requests sound alike none
+    by_tests false = waits_alike old new placed requests alike none
+none_alike choice old new placed (WaitsAny []) sound alike none =
+    one_of placed.journal.lines old new placed.line (ids_of placed.journal.lines (chosen placed [])) (ids_of placed.journal.lines []) (clear_ids old new placed (chosen placed []) alike none) alike
+none_alike choice old new placed (WaitsAny (request ∷ [])) sound alike none = waits_alike old new placed (request ∷ []) alike none
+none_alike choice old new placed (WaitsAny (one ∷ two ∷ requests)) sound alike none =
+    one_of placed.journal.lines old new placed.line (ids_of placed.journal.lines (chosen placed (one ∷ two ∷ requests))) (ids_of placed.journal.lines (one ∷ two ∷ requests))
     (clear_ids old new placed (chosen placed (one ∷ two ∷ requests)) alike none) alike
-none_alike choice old new placed (WaitsSome requests) waits alike none = waits_alike old new placed (chosen placed requests) alike none
-none_alike choice old new placed _ waits alike none = alike
+none_alike choice old new placed (WaitsSome requests) sound alike none = waits_alike old new placed (chosen placed requests) alike none
+none_alike choice old new placed _ sound alike none = alike
 
-by_alike : (run : Run) (choice : Choice) (old new : Progress) (placed : Placed) (o : Option ℕ) → choice.calls ≡ Strict → passes_tests choice.tests choice.calls ≡ false → Alike old new → NamesNone old.records placed placed.called → Alike (after_steps old placed.line (steps_by run choice placed o)) (after_steps new placed.line (steps_by run choice placed o))
-by_alike run choice old new placed (Some comm) strict waits alike none =
-    calls_alike old new placed.line (on_comm (here_at run choice placed comm) placed.called)
-    (on_comm_all IsCall (here_at run choice placed comm) placed.called (record { does = λ call. tt; whole = λ line call. tt; half = λ line call. tt }) (own_calls placed.called)) alike
-by_alike run choice old new placed None strict waits alike none =
+by_alike : (run : Run) (choice : Choice) (old new : Progress) (placed : Placed) (o : Option ℕ) → choice.calls ≡ Strict → SoundLines placed.journal.lines → Alike placed.journal.lines old new → NamesNone old.records placed placed.called → Alike placed.journal.lines (after_steps old placed.line (steps_by run choice placed o)) (after_steps new placed.line (steps_by run choice placed o))
+by_alike run choice old new placed (Some comm) strict sound alike none =
+    calls_alike placed.journal.lines old new placed.line (on_comm (here_at run choice placed comm) placed.called)
+    (on_comm_all IsCall (here_at run choice placed comm) placed.called (record { does = λ call. tt; whole = λ line call request. refl; half = λ line call request. refl }) (own_calls placed.called)) alike
+by_alike run choice old new placed None strict sound alike none =
     let steps = on_none choice placed placed.journal.lines placed.called in
-    subst (λ (b : Bool). Alike (after_steps old placed.line (unless_past b steps)) (after_steps new placed.line (unless_past b steps))) (sym (strict_past choice placed strict))
-    (none_alike choice old new placed placed.called waits alike none)
+    subst (λ (b : Bool). Alike placed.journal.lines (after_steps old placed.line (unless_past b steps)) (after_steps new placed.line (unless_past b steps))) (sym (strict_past choice placed strict))
+    (none_alike choice old new placed placed.called sound alike none)
 
 -- ---- What comes without sinks ----
 
@@ -232,16 +284,16 @@ MakerStays run longer placed it = makes_comm placed.called ≡ true → (comm : 
 abbrev end_by : Run → Choice → Placed → Bool → Outcome
 end_by run choice placed b = if b then Ends (WaitsForLate ∷ []) Finalize None else GoesOn (steps_of run choice placed)
 
-goes_comes : (run longer : Run) (choice : Choice) (placed : Placed) (it : More placed) (old new : Progress) → Both run longer choice → Alike old new → why_at run placed ≡ None → MakerStays run longer placed it → NamesNone old.records placed placed.called → Comes old new placed.line (end_by run choice placed (is_end placed.called)) (end_by longer choice (with_more placed it) (is_end placed.called))
+goes_comes : (run longer : Run) (choice : Choice) (placed : Placed) (it : More placed) (old new : Progress) → Both run longer choice → Alike placed.journal.lines old new → why_at run placed ≡ None → MakerStays run longer placed it → NamesNone old.records placed placed.called → Comes placed.journal.lines old new placed.line (end_by run choice placed (is_end placed.called)) (end_by longer choice (with_more placed it) (is_end placed.called))
 goes_comes run longer choice placed it old new both alike why maker none = by_end (is_end placed.called)
   where
-    by_end : (b : Bool) → Comes old new placed.line (end_by run choice placed b) (end_by longer choice (with_more placed it) b)
-    by_end true = inr (late_alike old new placed.line alike)
+    by_end : (b : Bool) → Comes placed.journal.lines old new placed.line (end_by run choice placed b) (end_by longer choice (with_more placed it) b)
+    by_end true = inr (late_alike placed.journal.lines old new placed.line alike)
     by_end false =
         let is = clear run placed why in
-        subst (λ (steps : List Step). Alike (after_steps old placed.line (steps_of run choice placed)) (after_steps new placed.line steps))
+        subst (λ (steps : List Step). Alike placed.journal.lines (after_steps old placed.line (steps_of run choice placed)) (after_steps new placed.line steps))
         (sym (steps_stay run longer choice placed it both.strict both.numbers is.told is.known maker))
-        (by_alike run choice old new placed (number_at run placed) both.strict both.as_waits alike none)
+        (by_alike run choice old new placed (number_at run placed) both.strict it.sound alike none)
 
 -- where the maker may be silent it is the last call
 abbrev pub Silent : Run → Run → (placed : Placed) → More placed → List Placed → Type 0
@@ -256,7 +308,7 @@ silent_last run choice placed entries old is last silent =
       may = ap (λ (b : Bool). b || (is_exchange placed.called && not placed.came_back)) silent;
     })
 
-plain_result : (run longer : Run) (choice : Choice) (placed : Placed) (it : More placed) (entries : List Placed) (old new : Progress) → Both run longer choice → Fine run longer placed it → Alike old new → Silent run longer placed it entries → outcome_in run choice old.records placed ≡ outcome_of run choice placed → ((why : Why) → why_at run placed ≡ Some why → steps_before run choice placed placed.called why ≡ []) → (why_at run placed ≡ None → NamesNone old.records placed placed.called × (outcome_in longer choice new.records (with_more placed it) ≡ outcome_of longer choice (with_more placed it))) → Result run longer choice placed it entries old new
+plain_result : (run longer : Run) (choice : Choice) (placed : Placed) (it : More placed) (entries : List Placed) (old new : Progress) → Both run longer choice → Fine run longer placed it → Alike placed.journal.lines old new → Silent run longer placed it entries → outcome_in run choice old.records placed ≡ outcome_of run choice placed → ((why : Why) → why_at run placed ≡ Some why → steps_before run choice placed placed.called why ≡ []) → (why_at run placed ≡ None → NamesNone old.records placed placed.called × (outcome_in longer choice new.records (with_more placed it) ≡ outcome_of longer choice (with_more placed it))) → Result run longer choice placed it entries old new
 plain_result run longer choice placed it entries old new both fine alike silent is before goes = by_why (why_at run placed) refl
   where
     other : Outcome
@@ -265,8 +317,8 @@ plain_result run longer choice placed it entries old new both fine alike silent 
     of_silent : Silent run longer placed it entries → why_at run placed ≡ None → Result run longer choice placed it entries old new
     of_silent (inl maker) why =
         let go = goes why in
-        inl (subst (λ (one : Outcome). Comes old new placed.line one other) (sym (is ∙ ap (λ (o : Option Why). outcome_by run choice placed o) why))
-        (subst (λ (one : Outcome). Comes old new placed.line (end_by run choice placed (is_end placed.called)) one)
+        inl (subst (λ (one : Outcome). Comes placed.journal.lines old new placed.line one other) (sym (is ∙ ap (λ (o : Option Why). outcome_by run choice placed o) why))
+        (subst (λ (one : Outcome). Comes placed.journal.lines old new placed.line (end_by run choice placed (is_end placed.called)) one)
         (sym (go.1 ∙ ap (λ (o : Option Why). outcome_by longer choice (with_more placed it) o) (why_stays run longer placed it both.numbers both.windows fine.kept why)))
         (goes_comes run longer choice placed it old new both alike why maker go.0)))
     of_silent (inr it) why =
@@ -276,8 +328,8 @@ plain_result run longer choice placed it entries old new both fine alike silent 
     by_why : (o : Option Why) → why_at run placed ≡ o → Result run longer choice placed it entries old new
     by_why None why = of_silent silent why
     by_why (Some reason) why =
-        inl (subst (λ (one : Outcome). Comes old new placed.line one other) (sym (is ∙ ap (λ (o : Option Why). outcome_by run choice placed o) why))
-        (stops old new placed.line (steps_before run choice placed placed.called reason) (Some reason) other (before reason why)))
+        inl (subst (λ (one : Outcome). Comes placed.journal.lines old new placed.line one other) (sym (is ∙ ap (λ (o : Option Why). outcome_by run choice placed o) why))
+        (stops placed.journal.lines old new placed.line (steps_before run choice placed placed.called reason) (Some reason) other (before reason why)))
 
 -- ---- Waits ----
 
@@ -295,7 +347,7 @@ name_kept lines old new (request ∷ requests) pairs none =
     both_false : (a b : Bool) → a ≡ false → b ≡ false → (a || b) ≡ false
     both_false a b first second = rw (first, second) refl
 
-names_none : (old new : Progress) (placed : Placed) (it : More placed) (requests : List ℕ) → Alike old new → AllOf (StaysOf placed.journal.lines it.later.lines) requests → name_sink old.records placed requests ≡ false → name_sink new.records (with_more placed it) requests ≡ false
+names_none : (old new : Progress) (placed : Placed) (it : More placed) (requests : List ℕ) → Alike placed.journal.lines old new → AllOf (StaysOf placed.journal.lines it.later.lines) requests → name_sink old.records placed requests ≡ false → name_sink new.records (with_more placed it) requests ≡ false
 names_none old new placed it requests alike all none =
     ap (λ (ids : List Id). some_sunk new.records ids) (ids_stay placed.journal.lines it.later.lines requests all)
     ∙ name_kept placed.journal.lines old.records new.records (filter (λ request. not (is_left_out placed.journal.lines request)) requests) alike.records none
@@ -314,7 +366,7 @@ waits_some choice records placed requests strict some =
 pub record Case (run longer : Run) (choice : Choice) (placed : Placed) (it : More placed) (entries : List Placed) (old new : Progress) : Type 0 where
   pub both : Both run longer choice
   pub fine : Fine run longer placed it
-  pub alike : Alike old new
+  pub alike : Alike placed.journal.lines old new
   pub silent : Silent run longer placed it entries
   pub sound : is_sound run placed ≡ true
   pub over : (entries ≡ []) ⊎ IsOver placed (with_more placed it)
@@ -330,9 +382,9 @@ none_result run longer choice placed it entries old new case before none also =
 
 pub ended_result : (run longer : Run) (choice : Choice) (placed : Placed) (it : More placed) (entries : List Placed) (old new : Progress) (why : Why) → Case run longer choice placed it entries old new → by_call run choice old.records placed placed.called ≡ Some (ends why) → Result run longer choice placed it entries old new
 ended_result run longer choice placed it entries old new why case is =
-    inl (subst (λ (one : Outcome). Comes old new placed.line one (outcome_in longer choice new.records (with_more placed it)))
+    inl (subst (λ (one : Outcome). Comes placed.journal.lines old new placed.line one (outcome_in longer choice new.records (with_more placed it)))
     (sym (in_by run choice old.records placed (Some (ends why)) case.both.with_sinks case.sound is))
-    (stops old new placed.line [] (Some why) (outcome_in longer choice new.records (with_more placed it)) refl))
+    (stops placed.journal.lines old new placed.line [] (Some why) (outcome_in longer choice new.records (with_more placed it)) refl))
 
 pub waits_result : (run longer : Run) (choice : Choice) (placed : Placed) (it : More placed) (entries : List Placed) (old new : Progress) (requests : List ℕ) → Case run longer choice placed it entries old new → BeforeNone run choice placed → AllOf (StaysOf placed.journal.lines it.later.lines) requests → (name_sink old.records placed requests ≡ false → NamesNone old.records placed placed.called) → by_call run choice old.records placed placed.called ≡ waits_by choice old.records placed requests → by_call longer choice new.records (with_more placed it) placed.called ≡ waits_by choice new.records (with_more placed it) requests → Result run longer choice placed it entries old new
 waits_result run longer choice placed it entries old new requests case before all names is also = by_name (name_sink old.records placed requests) refl

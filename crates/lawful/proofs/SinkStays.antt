@@ -2,11 +2,14 @@
 use Rattle.std.proofs.Common.{◌≡◌, ◌⊎◌, ℕ, ◌+◌, ◌==◌, ◌||◌, not, max, Bool, true, false, Option, Some, None, is_some, unwrap_or, if◌then◌else◌, List, [], ◌∷◌, ◌++◌, length, take, refl, sym, ap, subst, ◌∙◌, inl, inr}
 use Rattle.std.specs.Prelude.{⊤}
 use Rattle.std.specs.List.{find, list_any, range_with_len}
+use Rattle.std.specs.Option.{option_map_or}
 use Rattle.std.proofs.lemmas.Bool.{cases_Bool, false≢true, or_parts}
 use Rattle.std.proofs.lemmas.List.Folds.{list_any-append}
 use Rattle.mpicall.specs.declared.limits.TheConstants.{MOST_REQUESTS}
 use Rattle.mpicall.specs.declared.call.Call.{Call}
 use Rattle.closing.specs.Steps.{Id, Own, Whole, ReceiveHalf, Sink, Written, Progress, Step, Does, Starts, WaitsForAll, WaitsForOne, PutsOff, WaitsForLate, same_id, number_in, without, without_all, put_number, numbers_of, has_number, is_free, above, least_free, waits_for, wait_for_one, wait_one, plain, after_step, after_steps}
+use Rattle.journals.specs.Lines.{Line}
+use Rattle.closing.specs.Entry.{id_of, is_of_send, matched_message}
 use Rattle.closing.specs.Sinks.{is_of, sink_for, sink_in}
 use Rattle.closing.specs.declared.pending.Wanted.{Wanted}
 use Rattle.lawful.specs.LongerSinks.{StaysThere, AllStay, IsInPlace, IsSinkStill, IsReceived}
@@ -216,12 +219,30 @@ least_same old new active =
 
 -- ---- Lists so far ----
 
--- no request is put off, and each active sink is a record's
-pub record Alike (old new : Progress) : Type 0 where
+-- each of these is the request of a send
+pub record IsSend (lines : List Line) (id : Id) : Type 0 where
+  pub request : ℕ
+  pub is : id ≡ Own request
+  pub sends : is_of_send lines request ≡ true
+
+abbrev pub AreSends : List Line → List Id → Type 0
+AreSends lines [] = ⊤
+AreSends lines (id ∷ ids) = IsSend lines id × AreSends lines ids
+
+pub a_send : (lines : List Line) (request : ℕ) → matched_message lines request ≡ None → is_of_send lines request ≡ true → IsSend lines (id_of lines request)
+a_send lines request none sent = record {
+  request = request;
+  is = ap (λ (one : Option ℕ). Own (option_map_or (λ message. message) one request)) none;
+  sends = sent;
+}
+
+-- requests of sends alone are put off, and none of them is a sink's; each active sink is a record's
+pub record Alike (lines : List Line) (old new : Progress) : Type 0 where
   pub records : Pairs old.records new.records
   pub active : Active old.active new.active
-  pub late : old.late ≡ []
-  pub also_late : new.late ≡ []
+  pub late : new.late ≡ old.late
+  pub sends : AreSends lines old.late
+  pub quiet : (request : ℕ) → is_of_send lines request ≡ true → has_sink request old.records ≡ false
   pub covers : (request : ℕ) → has_sink request old.records ≡ false → is_active_sink request old.active ≡ false
 
 sink_first : (request : ℕ) (records more : List Written) → has_sink request (records ++ more) ≡ false → has_sink request records ≡ false
@@ -233,25 +254,37 @@ sink_last request records one none =
     (or_parts (is_of (Own request) one.starts) false
     (or_parts (has_sink request records) (is_of (Own request) one.starts || false) (sym (list_any-append (λ w. is_of (Own request) w.starts) records (one ∷ [])) ∙ none)).1).0
 
-waits_alike : (old new : Progress) (numbers : List ℕ) (more also : List Written) → Alike old new → Pairs more also → Alike (record old { records = old.records ++ more; active = without_all numbers old.active }) (record new { records = new.records ++ also; active = without_all numbers new.active })
-waits_alike old new numbers more also alike pairs = record {
+both_quiet : (request : ℕ) (records more : List Written) → has_sink request records ≡ false → has_sink request more ≡ false → has_sink request (records ++ more) ≡ false
+both_quiet request records more first others =
+    list_any-append (λ one. is_of (Own request) one.starts) records more
+    ∙ ap (λ (b : Bool). b || has_sink request more) first ∙ others
+
+pub plain_quiet : (request line : ℕ) (calls : List Call) → has_sink request (plain line calls) ≡ false
+plain_quiet request line [] = refl
+plain_quiet request line (call ∷ calls) = plain_quiet request line calls
+
+waits_alike : (lines : List Line) (old new : Progress) (numbers : List ℕ) (more also : List Written) → Alike lines old new → ((request : ℕ) → has_sink request more ≡ false) → Pairs more also → Alike lines (record old { records = old.records ++ more; active = without_all numbers old.active }) (record new { records = new.records ++ also; active = without_all numbers new.active })
+waits_alike lines old new numbers more also alike quiet pairs = record {
   records = pairs_append old.records new.records more also alike.records pairs;
   active = active_all numbers old.active new.active alike.active;
   late = alike.late;
-  also_late = alike.also_late;
+  sends = alike.sends;
+  quiet = λ request sent. both_quiet request old.records more (alike.quiet request sent) (quiet request);
   covers = λ request none. none_all request numbers old.active (alike.covers request (sink_first request old.records more none));
 }
 
 -- a request that is started with the same number in both
-pub start_alike : (old new : Progress) (line : ℕ) (id other : Id) (call also : ℕ → Call) → Alike old new → IdStays id other → StaysThere (record { call = call (least_free old.active); line = line; starts = Some id }) (record { call = also (least_free old.active); line = line; starts = Some other }) → Alike (after_step old line (Starts id call)) (after_step new line (Starts other also))
-start_alike old new line id other call also alike ids stays =
+pub start_alike : (lines : List Line) (old new : Progress) (line : ℕ) (id other : Id) (call also : ℕ → Call) → Alike lines old new → IdStays id other → ((request : ℕ) → is_of_send lines request ≡ true → is_of (Own request) (Some id) ≡ false) → StaysThere (record { call = call (least_free old.active); line = line; starts = Some id }) (record { call = also (least_free old.active); line = line; starts = Some other }) → Alike lines (after_step old line (Starts id call)) (after_step new line (Starts other also))
+start_alike lines old new line id other call also alike ids quiet stays =
     let least = least_same old.active new.active alike.active in
+    let one : Written = record { call = call (least_free old.active); line = line; starts = Some id } in
     record {
-      records = pairs_append old.records new.records (record { call = call (least_free old.active); line = line; starts = Some id } ∷ []) (record { call = also (least_free new.active); line = line; starts = Some other } ∷ []) alike.records
+      records = pairs_append old.records new.records (one ∷ []) (record { call = also (least_free new.active); line = line; starts = Some other } ∷ []) alike.records
           (subst (λ (n : ℕ). StaysThere (record { call = call (least_free old.active); line = line; starts = Some id }) (record { call = also n; line = line; starts = Some other })) (sym least) stays, tt);
       active = ((least, ids), alike.active);
       late = alike.late;
-      also_late = alike.also_late;
+      sends = alike.sends;
+      quiet = λ request sent. both_quiet request old.records (one ∷ []) (alike.quiet request sent) (ap (λ (b : Bool). b || false) (quiet request sent));
       covers = λ request none. rw (
         sink_last request old.records (record { call = call (least_free old.active); line = line; starts = Some id }) none,
         alike.covers request (sink_first request old.records (record { call = call (least_free old.active); line = line; starts = Some id } ∷ []) none),
@@ -260,42 +293,44 @@ start_alike old new line id other call also alike ids stays =
 
 -- ---- The same steps ----
 
--- a step that waits for nothing
+-- a step that waits for nothing, and is no sink
 abbrev pub IsCall : Step → Type 0
 IsCall (Does call) = ⊤
-IsCall (Starts id call) = ⊤
+IsCall (Starts id call) = (request : ℕ) → is_of (Own request) (Some id) ≡ false
 IsCall step = ⊥
 
-call_alike : (old new : Progress) (line : ℕ) (step : Step) → IsCall step → Alike old new → Alike (after_step old line step) (after_step new line step)
-call_alike old new line (Does call) is alike = waits_alike old new [] (plain line (call ∷ [])) (plain line (call ∷ [])) alike (pairs_same (plain line (call ∷ [])))
-call_alike old new line (Starts id call) is alike = start_alike old new line id id call call alike (inl refl) (inl refl)
-call_alike old new line (WaitsForAll ids) is alike = absurd is
-call_alike old new line (WaitsForOne id ids) is alike = absurd is
-call_alike old new line (PutsOff ids) is alike = absurd is
-call_alike old new line WaitsForLate is alike = absurd is
+call_alike : (lines : List Line) (old new : Progress) (line : ℕ) (step : Step) → IsCall step → Alike lines old new → Alike lines (after_step old line step) (after_step new line step)
+call_alike lines old new line (Does call) is alike =
+    waits_alike lines old new [] (plain line (call ∷ [])) (plain line (call ∷ [])) alike (λ request. refl) (pairs_same (plain line (call ∷ [])))
+call_alike lines old new line (Starts id call) is alike = start_alike lines old new line id id call call alike (inl refl) (λ request sent. is request) (inl refl)
+call_alike lines old new line (WaitsForAll ids) is alike = absurd is
+call_alike lines old new line (WaitsForOne id ids) is alike = absurd is
+call_alike lines old new line (PutsOff ids) is alike = absurd is
+call_alike lines old new line WaitsForLate is alike = absurd is
 
-pub calls_alike : (old new : Progress) (line : ℕ) (steps : List Step) → AllSteps IsCall steps → Alike old new → Alike (after_steps old line steps) (after_steps new line steps)
-calls_alike old new line [] all alike = alike
-calls_alike old new line (step ∷ steps) all alike =
-    calls_alike (after_step old line step) (after_step new line step) line steps all.1 (call_alike old new line step all.0 alike)
+pub calls_alike : (lines : List Line) (old new : Progress) (line : ℕ) (steps : List Step) → AllSteps IsCall steps → Alike lines old new → Alike lines (after_steps old line steps) (after_steps new line steps)
+calls_alike lines old new line [] all alike = alike
+calls_alike lines old new line (step ∷ steps) all alike =
+    calls_alike lines (after_step old line step) (after_step new line step) line steps all.1 (call_alike lines old new line step all.0 alike)
 
-pub all_alike : (old new : Progress) (line : ℕ) (ids : List Id) → Clear old.active ids → Alike old new → Alike (after_step old line (WaitsForAll ids)) (after_step new line (WaitsForAll ids))
-all_alike old new line ids clear alike =
+pub all_alike : (lines : List Line) (old new : Progress) (line : ℕ) (ids : List Id) → Clear old.active ids → Alike lines old new → Alike lines (after_step old line (WaitsForAll ids)) (after_step new line (WaitsForAll ids))
+all_alike lines old new line ids clear alike =
     let numbers = numbers_of old.active ids in
     let calls = plain line (waits_for (length numbers) numbers) in
-    subst (λ (ns : List ℕ). Alike (after_step old line (WaitsForAll ids)) (record new { records = new.records ++ plain line (waits_for (length ns) ns); active = without_all ns new.active }))
-    (sym (numbers_same old.active new.active ids alike.active clear)) (waits_alike old new numbers calls calls alike (pairs_same calls))
+    subst (λ (ns : List ℕ). Alike lines (after_step old line (WaitsForAll ids)) (record new { records = new.records ++ plain line (waits_for (length ns) ns); active = without_all ns new.active }))
+    (sym (numbers_same old.active new.active ids alike.active clear))
+    (waits_alike lines old new numbers calls calls alike (λ request. plain_quiet request line (waits_for (length numbers) numbers)) (pairs_same calls))
 
-pub one_alike : (old new : Progress) (line : ℕ) (id : Id) (ids : List Id) → IsClear old.active id → Alike old new → Alike (after_step old line (WaitsForOne id ids)) (after_step new line (WaitsForOne id ids))
-one_alike old new line id ids clear alike =
-    subst (λ (o : Option ℕ). Alike (after_step old line (WaitsForOne id ids)) (wait_one new line o (take MOST_REQUESTS (numbers_of new.active ids))))
+pub one_alike : (lines : List Line) (old new : Progress) (line : ℕ) (id : Id) (ids : List Id) → IsClear old.active id → Alike lines old new → Alike lines (after_step old line (WaitsForOne id ids)) (after_step new line (WaitsForOne id ids))
+one_alike lines old new line id ids clear alike =
+    subst (λ (o : Option ℕ). Alike lines (after_step old line (WaitsForOne id ids)) (wait_one new line o (take MOST_REQUESTS (numbers_of new.active ids))))
     (sym (clear_number old.active new.active id alike.active clear)) (by_number (number_in old.active id))
   where
-    by_number : (o : Option ℕ) → Alike (wait_one old line o (take MOST_REQUESTS (numbers_of old.active ids))) (wait_one new line o (take MOST_REQUESTS (numbers_of new.active ids)))
+    by_number : (o : Option ℕ) → Alike lines (wait_one old line o (take MOST_REQUESTS (numbers_of old.active ids))) (wait_one new line o (take MOST_REQUESTS (numbers_of new.active ids)))
     by_number None = alike
     by_number (Some number) =
-        waits_alike old new (number ∷ []) (plain line (wait_for_one number (take MOST_REQUESTS (numbers_of old.active ids)) ∷ []))
-        (plain line (wait_for_one number (take MOST_REQUESTS (numbers_of new.active ids)) ∷ [])) alike (
+        waits_alike lines old new (number ∷ []) (plain line (wait_for_one number (take MOST_REQUESTS (numbers_of old.active ids)) ∷ []))
+        (plain line (wait_for_one number (take MOST_REQUESTS (numbers_of new.active ids)) ∷ [])) alike (λ request. refl) (
           inr (inr (record {
             number = number;
             numbers = take MOST_REQUESTS (numbers_of old.active ids);
@@ -308,13 +343,37 @@ one_alike old new line id ids clear alike =
           tt,
         )
 
--- the waits before the end, where none is put off
-pub late_alike : (old new : Progress) (line : ℕ) → Alike old new → Alike (after_step old line WaitsForLate) (after_step new line WaitsForLate)
-late_alike old new line alike =
-    subst (λ (ids : List Id). Alike (late_of old ids) (after_step new line WaitsForLate)) (sym alike.late)
-    (subst (λ (ids : List Id). Alike (late_of old []) (late_of new ids)) (sym alike.also_late) (waits_alike old new [] [] [] alike tt))
-  where
-    late_of : Progress → List Id → Progress
-    late_of progress ids =
-        let numbers = numbers_of progress.active ids in
-        record progress { records = progress.records ++ plain line (waits_for (length numbers) numbers); active = without_all numbers progress.active }
+-- ---- Requests that are put off ----
+
+sends_append : (lines : List Line) (ids others : List Id) → AreSends lines ids → AreSends lines others → AreSends lines (ids ++ others)
+sends_append lines [] others first last = last
+sends_append lines (id ∷ ids) others first last = (first.0, sends_append lines ids others first.1 last)
+
+pub put_off_alike : (lines : List Line) (old new : Progress) (line : ℕ) (ids : List Id) → AreSends lines ids → Alike lines old new → Alike lines (after_step old line (PutsOff ids)) (after_step new line (PutsOff ids))
+put_off_alike lines old new line ids sends alike = record {
+  records = alike.records;
+  active = alike.active;
+  late = ap (λ (late : List Id). late ++ ids) alike.late;
+  sends = sends_append lines old.late ids alike.sends sends;
+  quiet = alike.quiet;
+  covers = alike.covers;
+}
+
+sends_clear : (lines : List Line) (active : List (Id × ℕ)) (ids : List Id) → ((request : ℕ) → is_of_send lines request ≡ true → is_active_sink request active ≡ false) → AreSends lines ids → Clear active ids
+sends_clear lines active [] none sends = tt
+sends_clear lines active (id ∷ ids) none sends = (
+  record { request = sends.0.request; is = sends.0.is; none = none sends.0.request sends.0.sends },
+  sends_clear lines active ids none sends.1,
+)
+
+-- the waits before the end
+pub late_alike : (lines : List Line) (old new : Progress) (line : ℕ) → Alike lines old new → Alike lines (after_step old line WaitsForLate) (after_step new line WaitsForLate)
+late_alike lines old new line alike =
+    let numbers = numbers_of old.active old.late in
+    let calls = plain line (waits_for (length numbers) numbers) in
+    let same : numbers_of new.active new.late ≡ numbers =
+    ap (λ (ids : List Id). numbers_of new.active ids) alike.late
+    ∙ numbers_same old.active new.active old.late alike.active
+    (sends_clear lines old.active old.late (λ request sent. alike.covers request (alike.quiet request sent)) alike.sends) in
+    subst (λ (ns : List ℕ). Alike lines (after_step old line WaitsForLate) (record new { records = new.records ++ plain line (waits_for (length ns) ns); active = without_all ns new.active }))
+    (sym same) (waits_alike lines old new numbers calls calls alike (λ request. plain_quiet request line (waits_for (length numbers) numbers)) (pairs_same calls))

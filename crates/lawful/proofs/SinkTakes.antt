@@ -2,17 +2,18 @@
 use Rattle.std.proofs.Common.{◌≡◌, ◌⊎◌, ℕ, ◌&&◌, ◌||◌, Bool, true, false, Option, Some, None, is_none, if◌then◌else◌, List, [], ◌∷◌, refl, sym, ap, subst, ◌∙◌, inl, inr}
 use Rattle.std.specs.Prelude.{◌==◌}
 use Rattle.std.specs.Option.{option_map_or}
-use Rattle.std.proofs.lemmas.Bool.{false≢true, or_parts}
+use Rattle.std.proofs.lemmas.Bool.{false≢true, or_parts, ne_eqb}
 use Rattle.std.proofs.lemmas.Option.{none-some, same_Some}
 use Rattle.mpicall.specs.declared.call.Call.TheVariants.{Irecv}
 use Rattle.mpicall.specs.declared.call.Peer.TheVariants as peer
+use Rattle.journals.specs.Lines.{Line}
 use Rattle.journals.specs.Known.{is_any}
 use Rattle.journals.specs.declared.field.Field.{Field}
 use Rattle.journals.specs.declared.field.Field.TheVariants.{Natural, Signed, Null, Any, Undefined}
 use Rattle.closing.specs.Called.{Awaited}
 use Rattle.closing.specs.Reported.{Message, known_field, message_from, message_of, with_wildcards}
 use Rattle.closing.specs.Steps.{Id, Own, Sink, Written, Progress, Step, Starts, least_free, after_step}
-use Rattle.closing.specs.Entry.{start_receive}
+use Rattle.closing.specs.Entry.{is_of_send, start_receive}
 use Rattle.closing.specs.Sinks.{is_met, is_nobody, wanted_by, are_alike, overlap, sink_in, number_of}
 use Rattle.closing.specs.declared.pending.Wanted.{Wanted}
 use Rattle.lawful.specs.LongerSinks.{IsWithin, wanted_of, StaysThere, IsInPlace, IsSinkStill, IsReceived}
@@ -124,11 +125,15 @@ wanted_comm comm awaited (Some m) = refl
 abbrev pub sink_step : ℕ → Wanted → Bool → Step
 sink_step own wanted is_known = Starts (Sink (Some own) wanted is_known) (λ request. Irecv request wanted.comm peer.Null 0)
 
+apart_sent : (lines : List Line) (own request : ℕ) → is_of_send lines own ≡ false → is_of_send lines request ≡ true → (own == request) ≡ false
+apart_sent lines own request none sent =
+    ne_eqb own request (λ same. false≢true (sym none ∙ subst (λ (n : ℕ). is_of_send lines n ≡ true) (sym same) sent))
+
 -- a sink that takes no more
-pub still_alike : (old new : Progress) (line own : ℕ) (wanted less : Wanted) (is_known known : Bool) → Alike old new → IsWithin less wanted → Alike (after_step old line (sink_step own wanted is_known)) (after_step new line (sink_step own less known))
-still_alike old new line own wanted less is_known known alike within =
-    start_alike old new line (Sink (Some own) wanted is_known) (Sink (Some own) less known) (λ request. Irecv request wanted.comm peer.Null 0) (λ request. Irecv request less.comm peer.Null 0) alike
-    (inr (record { own = own; wanted = wanted; is_known = is_known; is = refl; also = inr (less, known, refl) }))
+pub still_alike : (lines : List Line) (old new : Progress) (line own : ℕ) (wanted less : Wanted) (is_known known : Bool) → Alike lines old new → is_of_send lines own ≡ false → IsWithin less wanted → Alike lines (after_step old line (sink_step own wanted is_known)) (after_step new line (sink_step own less known))
+still_alike lines old new line own wanted less is_known known alike none within =
+    start_alike lines old new line (Sink (Some own) wanted is_known) (Sink (Some own) less known) (λ request. Irecv request wanted.comm peer.Null 0) (λ request. Irecv request less.comm peer.Null 0) alike
+    (inr (record { own = own; wanted = wanted; is_known = is_known; is = refl; also = inr (less, known, refl) })) (λ request sent. apart_sent lines own request none sent)
     (inr (inl (record {
       own = own;
       wanted = wanted;
@@ -140,10 +145,10 @@ still_alike old new line own wanted less is_known known alike within =
     })))
 
 -- the receive of a message that it takes
-pub received_alike : (old new : Progress) (line own comm : ℕ) (wanted : Wanted) (is_known : Bool) (m : Message) → Alike old new → wanted.comm ≡ comm → IsWithin (wanted_of comm m) wanted → Alike (after_step old line (sink_step own wanted is_known)) (after_step new line (Starts (Own own) (start_receive comm m)))
-received_alike old new line own comm wanted is_known m alike same within =
-    start_alike old new line (Sink (Some own) wanted is_known) (Own own) (λ request. Irecv request wanted.comm peer.Null 0) (start_receive comm m) alike
-    (inr (record { own = own; wanted = wanted; is_known = is_known; is = refl; also = inl refl }))
+pub received_alike : (lines : List Line) (old new : Progress) (line own comm : ℕ) (wanted : Wanted) (is_known : Bool) (m : Message) → Alike lines old new → is_of_send lines own ≡ false → wanted.comm ≡ comm → IsWithin (wanted_of comm m) wanted → Alike lines (after_step old line (sink_step own wanted is_known)) (after_step new line (Starts (Own own) (start_receive comm m)))
+received_alike lines old new line own comm wanted is_known m alike none same within =
+    start_alike lines old new line (Sink (Some own) wanted is_known) (Own own) (λ request. Irecv request wanted.comm peer.Null 0) (start_receive comm m) alike
+    (inr (record { own = own; wanted = wanted; is_known = is_known; is = refl; also = inl refl })) (λ request sent. apart_sent lines own request none sent)
     (inr (inl (record {
       own = own;
       wanted = wanted;

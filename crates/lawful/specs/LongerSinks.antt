@@ -8,7 +8,7 @@ use Rattle.closing.specs.Entries.{Run, Placed, entries_at}
 use Rattle.closing.specs.Reported.{Message}
 use Rattle.closing.specs.Steps.{Own, Sink, Written, wait_for_one}
 use Rattle.closing.specs.Endings.{message_at}
-use Rattle.closing.specs.Entry.{Choice, passes_tests, start_receive}
+use Rattle.closing.specs.Entry.{Choice, start_receive}
 use Rattle.closing.specs.Recording.{whole_list}
 use Rattle.closing.specs.Sinks.{is_nobody, number_of}
 use Rattle.closing.specs.declared.choice.Calls.TheVariants.{Strict}
@@ -102,14 +102,13 @@ NoneIsFromNobody (placed ∷ entries) (later ∷ others) =
     ((it : Message) → message_at placed ≡ None → message_at later ≡ Some it → is_nobody it.source ≡ false) × NoneIsFromNobody entries others
 NoneIsFromNobody entries others = Unit {0}
 
--- Law: where tests are waits, the list of the longer run has the records so far in their places. In a sink's place the
--- receive of a message that it takes may stand, and a wait for any may name more requests. Only the records of a last
--- call may be others: of one that may make a communicator, of which none is reported, or of an exchange that never came
--- back.
+-- Law: the list of the longer run has the records so far in their places. In a sink's place the receive of a message
+-- that it takes may stand, and a wait for any may name more requests. Only the records of a last call may be others: of
+-- one that may make a communicator, of which none is reported, or of an exchange that never came back.
 abbrev pub WhatIsToldStaysWithSinks : Type 0
 WhatIsToldStaysWithSinks =
     (run longer : Run) (choice : Choice) (rank : ℕ) → choice.calls ≡ Strict → choice.unreported ≡ unreported.Sinks →
-    passes_tests choice.tests choice.calls ≡ false → IsRead run → IsRead longer → IsLonger run longer →
+    IsRead run → IsRead longer → IsLonger run longer →
     AllKept run longer (entries_at run rank) (entries_at longer rank) →
     NoneIsFromNobody (entries_at run rank) (entries_at longer rank) →
     AllStay (whole_list run choice rank).records (whole_list longer choice rank).records
