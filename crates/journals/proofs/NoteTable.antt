@@ -1,13 +1,23 @@
 -- Notes, as places for more of them are made.
 use Rattle.std.proofs.Common.{◌≡◌, ◌∙◌, ap, sym, refl, arith, ◌==◌, if◌then◌else◌, ℕ, zero, suc, true, Option, None, Some, List, [], ◌∷◌, ◌++◌, length, inl, inr}
 use Rattle.std.proofs.lemmas.Bool.{cases_Bool, eqb-true, eq-eqb, false≢true}
-use Rattle.std.specs.Prelude.{slice_get}
+use Rattle.std.specs.Prelude.{nat_eq, slice_get}
+use Rattle.std.specs.HashMap.{HashMap, get, hash_map_len}
+use Rattle.std.specs.Map.{lookup}
 use Rattle.journals.specs.inner.Notes.{near_or_far, may_call, by_call, called_note}
 use Rattle.journals.specs.declared.field.Field.{Field}
 use Rattle.journals.specs.declared.form.Form.{Form}
 use Rattle.journals.specs.declared.form.Form.TheVariants.{NewRequest, NewMessage}
 use Rattle.journals.specs.declared.word.CallWord.{CallWord}
 use Rattle.journals.specs.declared.note.Note.{Note}
+
+-- a map without entries has none
+looked_up : (entries : List (ℕ × Note)) → length entries ≡ 0 → (number : ℕ) → None ≡ lookup (nat_eq number) entries
+looked_up [] empty number = refl
+looked_up (entry ∷ entries) empty number = absurd (omega (arith, empty))
+
+pub none_of_none : {S : Type 0} (far : HashMap ℕ Note S) → hash_map_len far ≡ 0 → (number : ℕ) → None ≡ get nat_eq far number
+none_of_none far empty number = looked_up far.entries empty number
 
 -- a place without a note says what no place does
 pub place_more : (xs : List (Option Note)) (far : Option Note) (n : ℕ) → near_or_far (slice_get (xs ++ None ∷ []) n) far ≡ near_or_far (slice_get xs n) far

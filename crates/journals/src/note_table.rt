@@ -4,6 +4,8 @@
 //! beyond those before it has its note in a map.
 
 ghost use Rattle.std.specs.Prelude.{◌≡◌, ◌==◌, ◌≤◌, ◌<◌, ◌+◌, ℕ, None, Some, true, IfOk, MatchBool, OnOk, if◌then◌else◌, length};
+ghost use Rattle.std.specs.Prelude.{nat_eq};
+ghost use Rattle.std.specs.HashMap.{get};
 ghost use Rattle.journals.specs.inner.Notes.{note_at, may_call, by_call};
 
 use crate::form::Form;
@@ -29,6 +31,18 @@ impl Notes {
         }
     }
 
+    /// That of a number in the map, which most runs leave empty.
+    #[inline(always)]
+    #[tactic(auto, using(crate::proofs::NoteTable::none_of_none))]
+    fn far(&self, number: u32) -> Option<Note>
+        ensures { result ≡ get nat_eq self.now.far number }
+    {
+        if self.far.is_empty() {
+            return None;
+        }
+        self.far.get(&number).copied()
+    }
+
     /// The note of a number, if it has one.
     #[inline(always)]
     pub(crate) fn get(&self, number: u32) -> Option<Note>
@@ -36,7 +50,7 @@ impl Notes {
     {
         match self.near.get(number as usize).copied() {
             Some(Some(note)) => Some(note),
-            _ => self.far.get(&number).copied(),
+            _ => self.far(number),
         }
     }
 
