@@ -1,7 +1,7 @@
 -- The requests that lines free, line by line, and what stands for them.
 use Rattle.std.proofs.Common.{◌≡◌, ◌∙◌, refl, sym, ap, arith, ℕ, zero, suc, ◌+◌, ◌≤◌, ◌<◌, ◌==◌, ◌||◌, Bool, true, false, List, [], ◌∷◌, ◌++◌, length, take, get_or, Option, Some, None, Result, Ok, Err}
 use Rattle.std.specs.Prelude.{IfOk, cond, nat_eq, option_and_then, slice_get}
-use Rattle.std.specs.HashSet.{HashSet, contains}
+use Rattle.std.specs.HashSet.{HashSet, contains, hash_set_len}
 use Rattle.std.specs.List.{cons_option, list_any}
 use Rattle.std.proofs.lemmas.List.{append-nil, take_all}
 use Rattle.mpicall.specs.Word.{or_else}
@@ -177,3 +177,11 @@ pub none_are : {S : Type 0} (it : HashSet ℕ S) (lines : List Line) (requests :
     → contains nat_eq it id ≡ is_freed lines (Own id)
 none_are it lines requests id all none empty =
     none_has it id empty ∙ ap (list_any (λ request. same_id (id_of lines request) (Own id))) (sym none ∙ all)
+
+-- a set without members has none
+none_in : (keys : List ℕ) → length keys ≡ 0 → (number : ℕ) → false ≡ list_any (nat_eq number) keys
+none_in [] empty number = refl
+none_in (key ∷ keys) empty number = absurd (omega (arith, empty))
+
+pub none_among_none : {S : Type 0} (it : HashSet ℕ S) → hash_set_len it ≡ 0 → (number : ℕ) → false ≡ contains nat_eq it number
+none_among_none it empty number = none_in it.keys empty number

@@ -1,6 +1,8 @@
 -- What some requests are in the trace, one after the other.
-use Rattle.std.proofs.Common.{◌≡◌, ◌∙◌, refl, sym, ap, ℕ, ◌==◌, Bool, true, false, if◌then◌else◌, List, [], ◌∷◌, ◌++◌, Option, Some, None}
-use Rattle.std.specs.Prelude.{unwrap_or}
+use Rattle.std.proofs.Common.{◌≡◌, ◌∙◌, refl, sym, ap, arith, ℕ, ◌==◌, Bool, true, false, if◌then◌else◌, List, [], ◌∷◌, ◌++◌, Option, Some, None}
+use Rattle.std.specs.Prelude.{nat_eq, unwrap_or, length}
+use Rattle.std.specs.HashMap.{HashMap, get, hash_map_len}
+use Rattle.std.specs.Map.{lookup}
 use Rattle.std.proofs.lemmas.Bool.Decides.{Decides-eqb}
 use Rattle.mpicall.specs.Word.{or_else}
 use Rattle.journals.specs.declared.field.Field.{Field}
@@ -42,3 +44,11 @@ first_stays old new request message first is put other = put other ∙ by_same (
         let same : request ≡ other = (Decides-eqb request other).0 e in
         by_found (old other) refl (is ∙ ap (λ n. unwrap_or (old n) message) same)
     by_same false e = by_other (old other)
+
+-- a map without entries has none
+looked_up : (entries : List (ℕ × ℕ)) → length entries ≡ 0 → (number : ℕ) → None ≡ lookup (nat_eq number) entries
+looked_up [] empty number = refl
+looked_up (entry ∷ entries) empty number = absurd (omega (arith, empty))
+
+pub none_of_none : {S : Type 0} (it : HashMap ℕ ℕ S) → hash_map_len it ≡ 0 → (number : ℕ) → None ≡ get nat_eq it number
+none_of_none it empty number = looked_up it.entries empty number

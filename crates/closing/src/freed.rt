@@ -136,12 +136,20 @@ impl Freed {
         })
     }
 
+    /// Whether this stands for one of them. Most programs free none.
+    #[tactic(auto, using(crate::proofs::FreedIds::none_among_none))]
+    fn has_id(&self, id: u32) -> bool
+        ensures { result ≡ has_id self.now id }
+    {
+        !self.ids.is_empty() && self.ids.contains(&id)
+    }
+
     /// The record at a place starts what this stands for.
     pub(crate) fn take_start(&mut self, id: u32, place: u32) -> Result<(), AllocError>
         ensures ids { OnOk result (self.new.ids ≡ self.old.ids) }
         ensures places { OnOk result ((other : ℕ) → has_place self.new other ≡ (if place == other then (has_id self.old id || has_place self.old other) else has_place self.old other)) }
     {
-        if self.ids.contains(&id) {
+        if self.has_id(id) {
             self.places.insert(place)?;
         }
         Ok(())

@@ -51,9 +51,13 @@ impl Standing {
     }
 
     /// The message that a request takes, if it is that of a started matched receive.
+    #[tactic(auto, using(crate::proofs::StandingLemmas::none_of_none))]
     fn message_for(&self, request: u32) -> Option<u32>
         ensures { result ≡ message_for self.now request }
     {
+        if self.matched.is_empty() {
+            return None;
+        }
         self.matched.get(&request).copied()
     }
 
