@@ -48,11 +48,13 @@ pub mod PlainLemmas
 pub mod PlainSteps
 pub mod SoFarLemmas
 pub mod SoFarSteps
+pub mod LongerAmong
 pub mod LongerLemmas
 pub mod LongerSteps
 pub mod LongerMakers
 pub mod LongerWaves
 pub mod LongerWindows
+pub mod LongerLines
 pub mod LongerLists
 pub mod SinkStays
 pub mod SinkGoes

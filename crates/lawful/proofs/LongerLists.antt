@@ -25,15 +25,18 @@ use Rattle.closing.specs.declared.choice.Calls.TheVariants.{Strict}
 use Rattle.closing.specs.declared.choice.Unreported.TheVariants as unreported
 use Rattle.closing.specs.declared.why.Why.{Why}
 use Rattle.closing.specs.declared.why.Why.TheVariants.{NeverCameBack, NeverReported, Failed, NoNumber, CannotBe}
-use Rattle.lawful.specs.Longer.{IsKept, AllKept, Begins, BeginsButLast, Stays, last_is_silent, WhatIsToldStays}
+use Rattle.lawful.specs.Laws.{IsRead}
+use Rattle.lawful.specs.Longer.{IsKept, AllKept, Begins, BeginsButLast, IsWithoutSinks, Stays, last_is_silent, WhatIsToldStays}
+use Rattle.lawful.specs.LongerTold.{IsToldMore, WhatIsToldBetweenStays}
 use Rattle.lawful.proofs.SinkCases.{in_as_of}
 use Rattle.lawful.proofs.NoSinks.{NoSinks, steps_none, steps_not}
 use Rattle.lawful.proofs.EndLemmas.{entry_list, end_list, first_none, goes_on, next_of, none_of}
 use Rattle.lawful.proofs.WalkLemmas.{breaks_none}
 use Rattle.lawful.proofs.SoFarLemmas.{grows_both, steps_grow, list_grows}
 use Rattle.lawful.proofs.NewNumbers.{Numbers}
-use Rattle.lawful.proofs.LongerLemmas.{StaysOf, More, with_more, IsOver, AreLater, entries_later}
-use Rattle.lawful.proofs.LongerSteps.{parts_of, number_same, can_stay, why_stays, steps_stay}
+use Rattle.lawful.proofs.LongerLemmas.{StaysOf, More, with_more, IsOver, AreLater, entries_later, with_lines, same_lines, told_more}
+use Rattle.lawful.proofs.LongerLines.{as_many, lists_same}
+use Rattle.lawful.proofs.LongerSteps.{kept_line, over_there, parts_of, number_same, can_stay, why_stays, steps_stay}
 use Rattle.lawful.proofs.LongerWaves.{waves_same}
 use Rattle.lawful.proofs.LongerWindows.{window_still}
 use Rattle.lawful.proofs.LongerMakers.{over_maker, told_maker, maker_makes}
@@ -329,14 +332,14 @@ mode_rest : (run : Run) (choice : Choice) (placed : Placed) (entries : List Plac
 mode_rest run choice placed entries (inl without) = inl without
 mode_rest run choice placed entries (inr goes) = inr (and_parts (goes_on run placed) (list_all (goes_on run) entries) goes).1
 
-lists_stay : (run longer : Run) (choice : Choice) (entries others : List Placed) (progress : Progress) → Both run longer choice → Mode run choice entries → NoSinks progress.records → AreLater entries others → AllKept run longer entries others → Stays entries (list_from run choice progress entries).records (list_from longer choice progress others).records
+lists_stay : (run longer : Run) (choice : Choice) (entries others : List Placed) (progress : Progress) → Both run longer choice → Mode run choice entries → NoSinks progress.records → AreLater entries others → AllKept run longer entries others → Stays entries (list_from run choice progress entries).records (list_from longer choice progress (with_lines entries others)).records
 lists_stay run longer choice [] others progress both mode none all kept = inl (list_grows longer choice others progress)
 lists_stay run longer choice (placed ∷ entries) [] progress both mode none all kept = absurd all
 lists_stay run longer choice (placed ∷ entries) (other ∷ others) progress both mode none all kept =
-    subst (λ (one : Placed). Stays (placed ∷ entries) (list_from run choice progress (placed ∷ entries)).records (list_from longer choice progress (one ∷ others)).records) (sym all.0.is)
-    (entry_stays run longer choice placed all.0.it entries others progress both (mode_first run choice placed entries mode) none
-    (subst (λ (one : Placed). IsKept run longer placed one) all.0.is kept.0)
-    (subst (λ (one : Placed). (entries ≡ []) ⊎ IsOver placed one) all.0.is all.1)
+    subst (λ (one : Placed). Stays (placed ∷ entries) (list_from run choice progress (placed ∷ entries)).records (list_from longer choice progress (one ∷ with_lines entries others)).records) (sym all.0.is)
+    (entry_stays run longer choice placed all.0.it entries (with_lines entries others) progress both (mode_first run choice placed entries mode) none
+    (subst (λ (one : Placed). IsKept run longer placed one) all.0.is (kept_line run longer placed other placed.line kept.0))
+    (over_there placed other all.0.it entries all.0.is all.1)
     (λ new none_new. lists_stay run longer choice entries others new both (mode_rest run choice placed entries mode) none_new all.2 kept.1))
 
 -- ---- A rank ----
@@ -344,9 +347,10 @@ lists_stay run longer choice (placed ∷ entries) (other ∷ others) progress bo
 abbrev pub first_with : List Call → Progress
 first_with calls = record { records = written 0 calls; active = []; late = [] }
 
-pub what_is_told_stays : WhatIsToldStays
-what_is_told_stays run longer choice rank strict mode read read_longer long kept =
-    let all = λ (other : ℕ). entries_later run longer other read_longer (long.more other) (long.none_gone other) (long.none_moved other) in
+-- by the longer run's entries as if they were of the lines of the other's
+what_stays : (run longer : Run) (choice : Choice) (rank : ℕ) → choice.calls ≡ Strict → IsWithoutSinks run choice rank → IsRead run → IsRead longer → IsToldMore run longer → AllKept run longer (entries_at run rank) (entries_at longer rank) → Stays (entries_at run rank) (whole_list run choice rank).records (list_from longer choice (progress_first longer rank) (with_lines (entries_at run rank) (entries_at longer rank))).records
+what_stays run longer choice rank strict mode read read_longer long kept =
+    let all = λ (other : ℕ). entries_later run longer other read read_longer (long.more other) (long.none_gone other) (long.none_moved other) in
     let both : Both run longer choice = record {
       strict = strict;
       ranks = long.ranks;
@@ -354,6 +358,20 @@ what_is_told_stays run longer choice rank strict mode read read_longer long kept
       waves = waves_same run longer read long.ranks long.numbers all;
       windows = window_still run longer read_longer long.ranks long.more;
     } in
-    subst (λ (progress : Progress). Stays (entries_at run rank) (whole_list run choice rank).records (list_from longer choice progress (entries_at longer rank)).records)
+    subst (λ (progress : Progress). Stays (entries_at run rank) (whole_list run choice rank).records (list_from longer choice progress (with_lines (entries_at run rank) (entries_at longer rank))).records)
     (sym (ap (λ (calls : List Call). first_with calls) (long.prefaces rank)))
     (lists_stay run longer choice (entries_at run rank) (entries_at longer rank) (progress_first run rank) both mode (first_none run rank) (all rank) kept)
+
+pub what_is_told_stays : WhatIsToldStays
+what_is_told_stays run longer choice rank strict mode read read_longer long kept =
+    subst (λ (entries : List Placed). Stays (entries_at run rank) (whole_list run choice rank).records (list_from longer choice (progress_first longer rank) entries).records)
+    (same_lines run longer rank (long.more rank))
+    (what_stays run longer choice rank strict mode read read_longer (told_more run longer long) kept)
+
+pub what_is_told_between_stays : WhatIsToldBetweenStays
+what_is_told_between_stays run longer choice rank strict mode read read_longer long kept = (
+  (list_from longer choice (progress_first longer rank) (with_lines (entries_at run rank) (entries_at longer rank))).records,
+  what_stays run longer choice rank strict mode read read_longer long kept,
+  lists_same longer choice (entries_at run rank) (entries_at longer rank) (progress_first longer rank) strict
+      (as_many (entries_at run rank) (entries_at longer rank) (entries_later run longer rank read read_longer (long.more rank) (long.none_gone rank) (long.none_moved rank))),
+)

@@ -9,7 +9,7 @@ use Rattle.mpicall.specs.declared.call.Call.{Call}
 use Rattle.mpicall.specs.declared.call.Call.TheVariants.{Dup, Split, Coll}
 use Rattle.mpicall.specs.declared.call.Kind.TheVariants as kind
 use Rattle.journals.specs.Lines.{Line}
-use Rattle.journals.specs.Entries.{Entry, group_in}
+use Rattle.journals.specs.Entries.{group_in}
 use Rattle.journals.specs.Known.{report_of}
 use Rattle.journals.specs.declared.word.ReportWord.TheVariants as report
 use Rattle.closing.specs.Called.{Called, Splits, Makes}
@@ -87,13 +87,13 @@ pub over_maker : (run longer : Run) (placed : Placed) (it : More placed) (comm :
 over_maker run longer placed it comm ranks numbers waves over =
     maker_same run longer placed it comm ranks numbers waves
     (over_key longer (with_more placed it) over.also
-    ∙ ap (λ (entry : Entry). if makes_comm placed.called then option_and_then (made_with (wave_at placed)) (option_map group_in (report_of report.Comm entry)) else None) over.entry
+    ∙ ap (λ (o : Option Line). if makes_comm placed.called then option_and_then (made_with (wave_at placed)) (option_map group_in o) else None) over.entry
     ∙ sym (over_key run placed over.came))
 
 pub told_maker : (run longer : Run) (placed : Placed) (it : More placed) (comm : ℕ) (line : Line) → length longer ≡ length run → ((key : Key) → number_of longer key ≡ number_of run key) → ((wave : Wave) → brings longer wave ≡ brings run wave) → makes_comm placed.called ≡ true → report_of report.Comm placed.entry ≡ Some line → maker longer (with_more placed it) comm ≡ maker run placed comm
 told_maker run longer placed it comm line ranks numbers waves makes_one is =
     maker_same run longer placed it comm ranks numbers waves
-    (known_key longer (with_more placed it) line makes_one (it.reports report.Comm line is) ∙ sym (known_key run placed line makes_one is))
+    (known_key longer (with_more placed it) line makes_one (it.reports report.Comm line refl is) ∙ sym (known_key run placed line makes_one is))
 
 -- ---- One of the three ----
 

@@ -1,10 +1,9 @@
 -- What an entry stands for stays when its journal goes on.
-use Rattle.std.proofs.Common.{◌≡◌, ℕ, ◌&&◌, ◌||◌, not, Bool, true, false, Option, Some, None, is_some, is_none, if◌then◌else◌, List, [], ◌∷◌, ◌++◌, filter, refl, sym, ap, subst, ◌∙◌}
+use Rattle.std.proofs.Common.{◌≡◌, ◌⊎◌, ℕ, ◌&&◌, ◌||◌, not, Bool, true, false, Option, Some, None, is_some, is_none, if◌then◌else◌, List, [], ◌∷◌, ◌++◌, filter, refl, sym, ap, subst, ◌∙◌, inl, inr}
 use Rattle.std.specs.Prelude.{⊤, option_and_then}
 use Rattle.std.specs.List.{list_any}
 use Rattle.std.specs.Option.{option_map_or}
 use Rattle.std.proofs.lemmas.Bool.{false≢true}
-use Rattle.std.proofs.lemmas.List.Folds.{list_any-append}
 use Rattle.std.proofs.lemmas.Option.{none-some}
 use Rattle.mpicall.specs.Word.{or_else}
 use Rattle.mpicall.specs.declared.call.Call.{Call}
@@ -21,7 +20,7 @@ use Rattle.closing.specs.Entries.{Run, Placed, is_window}
 use Rattle.closing.specs.Numbers.{named_key, number_of}
 use Rattle.closing.specs.Reported.{Message, done_of, got_in, from_nobody, unless_moved, is_gone, is_left_out, is_kept, is_settled, message_in, message_of, says_gone, says_kept}
 use Rattle.closing.specs.Steps.{Id, Own, Step, Does, Starts, WaitsForAll, PutsOff}
-use Rattle.closing.specs.Endings.{awaited_at, breaks_off, can_be, chose_none, first_of, is_unknown, is_unreported, lacks_number, message_at, needs_number, number_at, why_at}
+use Rattle.closing.specs.Endings.{awaited_at, awaited_can_be, sends_can_be, size_at, breaks_off, can_be, chose_none, first_of, is_unknown, is_unreported, lacks_number, message_at, needs_number, number_at, why_at}
 use Rattle.closing.specs.Entry.{Choice, Here, start_send, start_receive, start_collective, kind_of, maker, id_of, is_of_send, ids_of, wait_for_all, pass_test, passes_tests, test, chosen, wait_for_one, wait_for_any, unless_past, starts, knowing, on_comm, on_none, is_past, steps_by, steps_of}
 use Rattle.closing.specs.declared.choice.Calls.TheVariants.{Strict}
 use Rattle.closing.specs.declared.why.Why.{Why}
@@ -30,8 +29,8 @@ use Rattle.lawful.specs.Longer.{IsKept}
 use Rattle.lawful.proofs.NewNumbers.{AllOf, Numbers}
 use Rattle.lawful.proofs.WalkLemmas.{breaks_none}
 use Rattle.lawful.proofs.PlainSteps.{strict_past}
-use Rattle.lawful.proofs.SoFarLemmas.{done_append, message_more}
-use Rattle.lawful.proofs.LongerLemmas.{StaysOf, out_stays, KeepsReports, More, with_more}
+use Rattle.lawful.proofs.SoFarLemmas.{message_more}
+use Rattle.lawful.proofs.LongerLemmas.{with_line, StaysOf, out_stays, KeepsReports, More, with_more, IsOver}
 
 -- ---- Messages ----
 
@@ -58,12 +57,35 @@ awaited_is placed (Probes awaited) is = rw is refl
 awaited_is placed (ProbesMatching message awaited) is = rw is refl
 awaited_is placed _ is = rw is refl
 
+-- ---- The same at another line ----
+
+pub awaited_line : (placed : Placed) (line : ℕ) → awaited_at (with_line placed line) ≡ awaited_at placed
+awaited_line placed line = awaited_is (with_line placed line) placed.called refl ∙ sym (awaited_is placed placed.called refl)
+
+pub message_line : (placed : Placed) (line : ℕ) → message_at (with_line placed line) ≡ message_at placed
+message_line placed line = ap (λ (o : Option (Awaited × Option Message)). option_and_then (λ it. message_of it.0 it.1) o) (awaited_line placed line)
+
+pub kept_line : (run longer : Run) (placed other : Placed) (line : ℕ) → IsKept run longer placed other → IsKept run longer placed (with_line other line)
+kept_line run longer placed other line kept = record {
+  failed = kept.failed;
+  can = λ h. ap (λ (o : Option (Awaited × Option Message)). sends_can_be (size_at longer other) other.called && option_map_or (awaited_can_be (size_at longer other)) o true) (awaited_line other line) ∙ kept.can h;
+}
+
+pub over_line : (placed other : Placed) (line : ℕ) → IsOver placed other → IsOver placed (with_line other line)
+over_line placed other line over = record { entry = over.entry; came = over.came; also = over.also }
+
+pub over_there : (placed other : Placed) (it : More placed) (entries : List Placed) → with_line other placed.line ≡ with_more placed it → (entries ≡ []) ⊎ IsOver placed other → (entries ≡ []) ⊎ IsOver placed (with_more placed it)
+over_there placed other it entries is (inl last) = inl last
+over_there placed other it entries is (inr over) = inr (subst (λ (one : Placed). IsOver placed one) is (over_line placed other placed.line over))
+
+-- ---- What is reported later ----
+
 got_kept : (entry other : Entry) (it : Message) → KeepsReports entry other → got_in entry ≡ Some it → got_in other ≡ Some it
 got_kept entry other it keeps h = of_line (report_of report.Got entry) refl h
   where
     of_line : (o : Option Line) → report_of report.Got entry ≡ o → option_and_then (λ (line : Line). message_in line.fields) o ≡ Some it → got_in other ≡ Some it
     of_line None is e = absurd (none-some it e)
-    of_line (Some line) is e = ap (λ (o : Option Line). option_and_then (λ (one : Line). message_in one.fields) o) (keeps report.Got line is) ∙ e
+    of_line (Some line) is e = ap (λ (o : Option Line). option_and_then (λ (one : Line). message_in one.fields) o) (keeps report.Got line refl is) ∙ e
 
 pub moved_stays : (lines later : List Line) (request : ℕ) (awaited : Awaited) → StaysOf lines later request → unless_moved later request awaited ≡ unless_moved lines request awaited
 moved_stays lines later request awaited is = ap (λ (b : Bool). if b then from_nobody awaited else awaited) is.moved
@@ -92,9 +114,7 @@ messages_stay None (Some other) still known = absurd still
 messages_stay (Some one) None still known = absurd still
 
 done_kept : (placed : Placed) (it : More placed) (request : ℕ) (m : Message) → done_of placed.journal.lines request ≡ Some m → done_of it.later.lines request ≡ Some m
-done_kept placed it request m h =
-    ap (λ (ls : List Line). done_of ls request) it.lines ∙ done_append placed.journal.lines it.more request
-    ∙ ap (λ (o : Option Message). or_else o (done_of it.more request)) h
+done_kept placed it request m h = it.done request m h
 
 pub message_kept : (placed : Placed) (it : More placed) → is_none (message_at placed) ≡ false → message_at (with_more placed it) ≡ message_at placed
 message_kept placed it known =
@@ -127,9 +147,7 @@ lacks_by true false true other keeps same h = refl
 lacks_by true also false other keeps same h = absurd (false≢true (sym h))
 
 any_kept : (test : Line → Bool) (placed : Placed) (it : More placed) → list_any test placed.journal.lines ≡ true → list_any test it.later.lines ≡ true
-any_kept test placed it h =
-    ap (λ (ls : List Line). list_any test ls) it.lines ∙ list_any-append test placed.journal.lines it.more
-    ∙ ap (λ (b : Bool). b || list_any test it.more) h
+any_kept test placed it h = it.any test h
 
 some_done : (placed : Placed) (it : More placed) (request : ℕ) → is_some (done_of placed.journal.lines request) ≡ true → is_some (done_of it.later.lines request) ≡ true
 some_done placed it request h = of_done (done_of placed.journal.lines request) refl h
@@ -169,7 +187,7 @@ chose_by placed it h = of_line (report_of report.Chose placed.entry) refl h
   where
     of_line : (o : Option Line) → report_of report.Chose placed.entry ≡ o → is_none o ≡ false → report_of report.Chose it.entry ≡ report_of report.Chose placed.entry
     of_line None is e = absurd (false≢true (sym e))
-    of_line (Some line) is e = it.reports report.Chose line is ∙ sym is
+    of_line (Some line) is e = it.reports report.Chose line refl is ∙ sym is
 
 chose_kept : (placed : Placed) (it : More placed) (requests : List ℕ) → chose_none placed requests ≡ false → chose_none (with_more placed it) requests ≡ false
 chose_kept placed it [] h = ap (λ (o : Option Line). is_none o) (chose_by placed it h) ∙ h

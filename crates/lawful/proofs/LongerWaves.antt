@@ -372,7 +372,7 @@ reported_kept : (placed : Placed) (it : More placed) (key : Key) (b : Bool) (o :
 reported_kept placed it key false o is h = absurd (none-some key h)
 reported_kept placed it key true None is h = absurd (none-some key h)
 reported_kept placed it key true (Some line) is h =
-    ap (λ (o : Option Line). option_and_then (made_with (wave_at placed)) (option_map group_in o)) (it.reports report.Comm line is) ∙ h
+    ap (λ (o : Option Line). option_and_then (made_with (wave_at placed)) (option_map group_in o)) (it.reports report.Comm line refl is) ∙ h
 
 gives_by : (run longer : Run) (placed : Placed) (it : More placed) (w : Bool) (o : Option Key) → ((key : Key) → number_of longer key ≡ number_of run key) → reported_key placed ≡ o → (w && option_map_or (has_number run) o false) ≡ true → (w && option_map_or (has_number longer) (reported_key (with_more placed it)) false) ≡ true
 gives_by run longer placed it false o numbers is h = absurd (false≢true h)

@@ -1,62 +1,64 @@
--- A run all of whose journals end with a cut has no more lines in a longer one, so that one is a window too.
-use Rattle.std.proofs.Common.{◌≡◌, ℕ, suc, ◌||◌, ◌&&◌, Bool, true, false, Option, Some, None, List, [], ◌∷◌, ◌++◌, length, refl, sym, ap, subst, ◌∙◌, append_assoc, append-nil, arith}
+-- Where the journals of a run all end with a cut, those of a longer one do.
+use Rattle.std.proofs.Common.{◌≡◌, ℕ, suc, ◌&&◌, Bool, true, Option, Some, None, List, [], ◌∷◌, length, refl, sym, ap, subst, ◌∙◌, inl, inr, arith}
 use Rattle.std.proofs.lemmas.Bool.{and_parts, false≢true}
 use Rattle.journals.specs.Lines.{Line}
 use Rattle.journals.specs.Entries.{Entry, Listing, last_of, listing_of, put_line}
-use Rattle.journals.specs.Faults.{ends_journal, ends_with_cut, is_after_end, is_cut, is_entry_cut}
+use Rattle.journals.specs.Faults.{ends_journal, ends_with_cut, is_cut, is_entry_cut}
 use Rattle.journals.specs.Journal.{Journal}
 use Rattle.journals.specs.declared.field.Field.{Field}
 use Rattle.journals.specs.declared.word.Word.{Word}
 use Rattle.journals.specs.declared.word.Word.TheVariants.{Call as CallLine, Report}
 use Rattle.journals.specs.declared.word.CallWord.{CallWord}
 use Rattle.journals.specs.declared.word.CallWord.TheVariants as call
-use Rattle.closing.specs.Entries.{Run, journal_at, lines_in, is_cut_off, is_window}
+use Rattle.journals.specs.declared.word.ReportWord.TheVariants as report
+use Rattle.closing.specs.Entries.{Run, journal_at, lines_in, lines_at, is_cut_off, is_window}
 use Rattle.lawful.specs.Laws.{IsRead}
-use Rattle.lawful.specs.Longer.{HasMore}
-use Rattle.lawful.proofs.RightLines.{AreRight}
-use Rattle.lawful.proofs.RunFacts.{right_of_rank}
+use Rattle.lawful.specs.LongerTold.{AreAmong}
+use Rattle.lawful.proofs.JournalEnds.{OnlyLastEnds}
+use Rattle.lawful.proofs.RunFacts.{ends_of_rank}
 
 -- ---- A journal that ends with a cut ----
 
-or_right : (a b : Bool) → b ≡ true → (a || b) ≡ true
-or_right true b h = refl
-or_right false b h = h
+abbrev last_cut : Listing → Bool
+last_cut listing = is_entry_cut (last_of listing.entries)
 
 cut_ends : (word : CallWord) → is_cut word ≡ true → ends_journal (CallLine word) ≡ true
 cut_ends call.Cut h = refl
 cut_ends _ h = absurd (false≢true h)
 
--- the last call is the first of the rest, or one of the others
-cut_put : (word : Word) (fields : List Field) (rest : Listing) (b : Bool) → (is_entry_cut (last_of rest.entries) ≡ true → b ≡ true) → is_entry_cut (last_of (put_line word fields rest).entries) ≡ true → (ends_journal word || b) ≡ true
-cut_put (Report word) fields rest b others h = or_right (ends_journal (Report word)) b (others h)
-cut_put (CallLine word) fields rest b others h = by_rest rest.entries refl h
+last_put : (first : Entry) (entries : List Entry) → is_entry_cut (last_of entries) ≡ true → is_entry_cut (last_of (first ∷ entries)) ≡ true
+last_put first [] h = absurd (false≢true h)
+last_put first (entry ∷ entries) h = h
+
+-- the same line in front of both; behind a cut comes nothing
+put_cut : (word : Word) (fields : List Field) (rest : Listing) (others : List Line) → (last_cut rest ≡ true → last_cut (listing_of others) ≡ true) → (ends_journal word ≡ true → others ≡ []) → last_cut (put_line word fields rest) ≡ true → last_cut (put_line word fields (listing_of others)) ≡ true
+put_cut (Report word) fields rest others keeps none h = keeps h
+put_cut (CallLine word) fields rest others keeps none h = by_rest rest.entries refl h
   where
-    by_rest : (entries : List Entry) → rest.entries ≡ entries → is_entry_cut (last_of (record { word = word; fields = fields; reports = rest.early } ∷ entries)) ≡ true → (ends_journal (CallLine word) || b) ≡ true
-    by_rest [] is h = ap (λ (a : Bool). a || b) (cut_ends word h)
-    by_rest (entry ∷ entries) is h =
-        or_right (ends_journal (CallLine word)) b (others (ap (λ (es : List Entry). is_entry_cut (last_of es)) is ∙ h))
+    entry : Listing → Entry
+    entry listing = record { word = word; fields = fields; reports = listing.early }
 
-cut_after : (lines : List Line) → ends_with_cut lines ≡ true → is_after_end lines ≡ true
-cut_after [] h = absurd (false≢true h)
-cut_after (line ∷ lines) h = cut_put line.word line.fields (listing_of lines) (is_after_end lines) (λ rest. cut_after lines rest) h
+    by_rest : (entries : List Entry) → rest.entries ≡ entries → is_entry_cut (last_of (entry rest ∷ entries)) ≡ true → last_cut (put_line (CallLine word) fields (listing_of others)) ≡ true
+    by_rest [] is h = subst (λ (os : List Line). last_cut (put_line (CallLine word) fields (listing_of os)) ≡ true) (sym (none (cut_ends word h))) h
+    by_rest (one ∷ entries) is h = last_put (entry (listing_of others)) (listing_of others).entries (keeps (ap (λ (es : List Entry). is_entry_cut (last_of es)) is ∙ h))
 
-none_more : (before lines more : List Line) → AreRight before (lines ++ more) → is_after_end (before ++ lines) ≡ true → more ≡ []
-none_more before [] [] right ends = refl
-none_more before [] (line ∷ more) right ends =
-    absurd (false≢true (sym right.0.goes_on ∙ ap (λ (ls : List Line). is_after_end ls) (sym (append-nil before)) ∙ ends))
-none_more before (line ∷ lines) more right ends =
-    none_more (before ++ line ∷ []) lines more right.1 (ap (λ (ls : List Line). is_after_end ls) (append_assoc before (line ∷ []) lines) ∙ ends)
+told_cut : (word : Word) (fields : List Field) (rest : Listing) → word ≡ Report report.Done → last_cut rest ≡ true → last_cut (put_line word fields rest) ≡ true
+told_cut word fields rest is h = subst (λ (w : Word). last_cut (put_line w fields rest) ≡ true) (sym is) h
 
-cut_still : (o other : Option Journal) (more : List Line) → lines_in other ≡ lines_in o ++ more → ((journal : Journal) → other ≡ Some journal → AreRight [] journal.lines) → is_cut_off o ≡ true → is_cut_off other ≡ true
-cut_still None other more lines right h = absurd (false≢true h)
-cut_still (Some journal) None more lines right h = absurd (false≢true (by journal.lines lines h))
-  where
-    by : (ls : List Line) → [] ≡ ls ++ more → ends_with_cut ls ≡ true → false ≡ true
-    by [] is e = e
-    by (line ∷ ls) is e = let none : 0 ≡ length (line ∷ (ls ++ more)) = ap length is in absurd (omega (arith, none))
-cut_still (Some journal) (Some later) more lines right h =
-    let none = none_more [] journal.lines more (subst (λ (ls : List Line). AreRight [] ls) lines (right later refl)) (cut_after journal.lines h) in
-    ap (λ (ls : List Line). ends_with_cut ls) (lines ∙ ap (λ (ls : List Line). journal.lines ++ ls) none ∙ append-nil journal.lines) ∙ h
+cut_among : (all lines others : List Line) → AreAmong all lines others → OnlyLastEnds others → ends_with_cut lines ≡ true → ends_with_cut others ≡ true
+cut_among all [] others among ends h = absurd (false≢true h)
+cut_among all (line ∷ lines) [] among ends h = absurd among
+cut_among all (line ∷ lines) (other ∷ others) (inl here) ends h =
+    subst (λ (one : Line). last_cut (put_line one.word one.fields (listing_of others)) ≡ true) (sym here.0)
+    (put_cut line.word line.fields (listing_of lines) others (λ rest. cut_among all lines others here.1 ends.1 rest)
+    (subst (λ (one : Line). ends_journal one.word ≡ true → others ≡ []) here.0 ends.0) h)
+cut_among all (line ∷ lines) (other ∷ others) (inr told) ends h =
+    told_cut other.word other.fields (listing_of others) told.0.word (cut_among all (line ∷ lines) others told.1 ends.1 h)
+
+cut_still : (o other : Option Journal) → AreAmong (lines_in o) (lines_in o) (lines_in other) → ((journal : Journal) → other ≡ Some journal → OnlyLastEnds journal.lines) → is_cut_off o ≡ true → is_cut_off other ≡ true
+cut_still None other among ends h = absurd (false≢true h)
+cut_still (Some journal) None among ends h = absurd (false≢true (cut_among journal.lines journal.lines [] among tt h))
+cut_still (Some journal) (Some later) among ends h = cut_among journal.lines journal.lines later.lines among (ends later refl) h
 
 -- ---- A run ----
 
@@ -71,8 +73,8 @@ all_still (o ∷ run) (other ∷ longer) ranks keeps h =
     both : (a b : Bool) → a ≡ true → b ≡ true → (a && b) ≡ true
     both a b first second = rw (first, second) refl
 
-pub window_still : (run longer : Run) → IsRead longer → length longer ≡ length run → ((rank : ℕ) → HasMore run longer rank) → is_window run ≡ true → is_window longer ≡ true
-window_still run longer read ranks has h =
+pub window_still : (run longer : Run) → IsRead longer → length longer ≡ length run → ((rank : ℕ) → AreAmong (lines_at run rank) (lines_at run rank) (lines_at longer rank)) → is_window run ≡ true → is_window longer ≡ true
+window_still run longer read ranks among h =
     all_still run longer ranks
-    (λ rank. cut_still (journal_at run rank) (journal_at longer rank) (has rank).more (has rank).lines
-    (λ journal is. right_of_rank read.first read.texts longer read.is_read rank journal is)) h
+    (λ rank. cut_still (journal_at run rank) (journal_at longer rank) (among rank)
+    (λ journal is. ends_of_rank read.first read.texts longer read.is_read rank journal is)) h

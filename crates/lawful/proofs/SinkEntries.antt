@@ -23,16 +23,21 @@ use Rattle.closing.specs.Entry.{Choice, is_of_send, here_at, start_send, start_r
 use Rattle.closing.specs.Recording.{is_end, steps_before, outcome_by, outcome_in, go_on, list_from, progress_first, whole_list}
 use Rattle.closing.specs.Sinks.{Outcome, GoesOn, Ends, ends, blocks, sinks, starts_half, unsure, takes_by, takes_nothing, is_met, is_nobody, wanted_at, wanted_by, is_sound, by_call, request_received}
 use Rattle.closing.specs.declared.pending.Wanted.{Wanted}
+use Rattle.closing.specs.declared.choice.Calls.TheVariants.{Strict}
+use Rattle.closing.specs.declared.choice.Unreported.TheVariants as unreported
 use Rattle.closing.specs.declared.why.Why.{Why}
 use Rattle.closing.specs.declared.why.Why.TheVariants.{NeverCameBack, NotJudged, Failed, NoNumber, CannotBe}
 use Rattle.lawful.specs.Longer.{IsKept, AllKept, is_silent}
-use Rattle.lawful.specs.LongerSinks.{IsWithin, AllStay, StayButLast, last_may_change, is_exchange, NoneIsFromNobody, WhatIsToldStaysWithSinks}
+use Rattle.lawful.specs.Laws.{IsRead}
+use Rattle.lawful.specs.LongerTold.{IsToldMore, WhatIsToldBetweenStaysWithSinks}
+use Rattle.lawful.specs.LongerSinks.{StaysWithSinks, IsWithin, AllStay, last_may_change, is_exchange, NoneIsFromNobody, WhatIsToldStaysWithSinks}
 use Rattle.lawful.proofs.ActiveSends.{AllSteps}
 use Rattle.lawful.proofs.NewNumbers.{Numbers}
 use Rattle.lawful.proofs.PlainSteps.{AreOf, all_of, strict_past}
 use Rattle.lawful.proofs.SoFarLemmas.{list_grows}
-use Rattle.lawful.proofs.LongerLemmas.{StaysOf, More, with_more, IsOver, AreLater, entries_later}
-use Rattle.lawful.proofs.LongerSteps.{moved_stays, awaited_by, awaited_is, known_kept, message_kept, number_same}
+use Rattle.lawful.proofs.LongerLemmas.{StaysOf, More, with_more, IsOver, AreLater, entries_later, with_lines, same_lines, told_more}
+use Rattle.lawful.proofs.LongerLines.{as_many, lists_same}
+use Rattle.lawful.proofs.LongerSteps.{kept_line, message_line, over_there, moved_stays, awaited_by, awaited_is, known_kept, message_kept, number_same}
 use Rattle.lawful.proofs.LongerMakers.{over_maker, told_maker}
 use Rattle.lawful.proofs.LongerWaves.{waves_same}
 use Rattle.lawful.proofs.LongerWindows.{window_still}
@@ -541,9 +546,6 @@ steps_add old line (step ∷ steps) =
 
 -- ---- Lists ----
 
-abbrev StayBut : List Placed → List Written → List Written → Type 0
-StayBut entries old new = AllStay old new ⊎ ((last_may_change entries ≡ true) × StayButLast old new)
-
 stay_grown : (old new all : List Written) → Pairs old new → (rest : List Written) × (all ≡ new ++ rest) → AllStay old all
 stay_grown old new all pairs grows = subst (λ (rs : List Written). AllStay old rs) (sym grows.1) (pairs_stay old new grows.0 pairs)
 
@@ -551,7 +553,7 @@ may_more : (placed : Placed) (entries : List Placed) → last_may_change entries
 may_more placed [] h = absurd (false≢true h)
 may_more placed (one ∷ entries) h = h
 
-stay_more : (placed : Placed) (entries : List Placed) (old new : List Written) → StayBut entries old new → StayBut (placed ∷ entries) old new
+stay_more : (placed : Placed) (entries : List Placed) (old new : List Written) → StaysWithSinks entries old new → StaysWithSinks (placed ∷ entries) old new
 stay_more placed entries old new (inl stay) = inl stay
 stay_more placed entries old new (inr but) = inr (may_more placed entries but.0, but.1)
 
@@ -560,9 +562,9 @@ empty_stays lines old new line steps all alike none grows =
     subst (λ (ss : List Step). AllStay (after_steps old line ss).records all) (sym none) (stay_grown old.records new.records all alike.records grows)
 
 abbrev Rest : Run → Run → Choice → List Line → List Placed → List Placed → Type 0
-Rest run longer choice lines entries others = (old new : Progress) → Alike lines old new → StayBut entries (list_from run choice old entries).records (list_from longer choice new others).records
+Rest run longer choice lines entries others = (old new : Progress) → Alike lines old new → StaysWithSinks entries (list_from run choice old entries).records (list_from longer choice new others).records
 
-comes_stay : (run longer : Run) (choice : Choice) (placed : Placed) (entries others : List Placed) (old new : Progress) (one other : Outcome) → Alike placed.journal.lines old new → Comes placed.journal.lines old new placed.line one other → (rest : List Written) × ((go_on new placed.line other (λ next. list_from longer choice next others)).records ≡ new.records ++ rest) → Rest run longer choice placed.journal.lines entries others → StayBut (placed ∷ entries) (go_on old placed.line one (λ next. list_from run choice next entries)).records (go_on new placed.line other (λ next. list_from longer choice next others)).records
+comes_stay : (run longer : Run) (choice : Choice) (placed : Placed) (entries others : List Placed) (old new : Progress) (one other : Outcome) → Alike placed.journal.lines old new → Comes placed.journal.lines old new placed.line one other → (rest : List Written) × ((go_on new placed.line other (λ next. list_from longer choice next others)).records ≡ new.records ++ rest) → Rest run longer choice placed.journal.lines entries others → StaysWithSinks (placed ∷ entries) (go_on old placed.line one (λ next. list_from run choice next entries)).records (go_on new placed.line other (λ next. list_from longer choice next others)).records
 comes_stay run longer choice placed entries others old new (GoesOn steps) (GoesOn also) alike comes grows rest =
     stay_more placed entries (list_from run choice (after_steps old placed.line steps) entries).records (list_from longer choice (after_steps new placed.line also) others).records
     (rest (after_steps old placed.line steps) (after_steps new placed.line also) comes)
@@ -575,7 +577,7 @@ comes_stay run longer choice placed entries others old new (Ends steps end why) 
     inl (stay_grown (after_steps old placed.line steps).records (after_steps new placed.line also).records (after_steps new placed.line also).records next.records
     ([], sym (append-nil (after_steps new placed.line also).records)))
 
-result_stays : (run longer : Run) (choice : Choice) (placed : Placed) (it : More placed) (entries others : List Placed) (old new : Progress) → Alike placed.journal.lines old new → Result run longer choice placed it entries old new → Rest run longer choice placed.journal.lines entries others → StayBut (placed ∷ entries) (list_from run choice old (placed ∷ entries)).records (list_from longer choice new (with_more placed it ∷ others)).records
+result_stays : (run longer : Run) (choice : Choice) (placed : Placed) (it : More placed) (entries others : List Placed) (old new : Progress) → Alike placed.journal.lines old new → Result run longer choice placed it entries old new → Rest run longer choice placed.journal.lines entries others → StaysWithSinks (placed ∷ entries) (list_from run choice old (placed ∷ entries)).records (list_from longer choice new (with_more placed it ∷ others)).records
 result_stays run longer choice placed it entries others old new alike (inl comes) rest =
     comes_stay run longer choice placed entries others old new (outcome_in run choice old.records placed) (outcome_in longer choice new.records (with_more placed it)) alike comes
     (list_grows longer choice (with_more placed it ∷ others) new) rest
@@ -606,7 +608,7 @@ sunk_entry run longer choice placed it entries old new whole fine over alike = b
         call_result run longer choice placed it entries old new placed.called refl it.numbers
         (record { both = whole.both; fine = fine; alike = alike; silent = whole.makers placed it entries over; sound = sound; over = over })
 
-lists_sunk : (run longer : Run) (choice : Choice) (lines : List Line) (entries others : List Placed) (old new : Progress) → Runs run longer choice → AreOf lines entries → AreLater entries others → AllKept run longer entries others → NoneIsFromNobody entries others → Alike lines old new → StayBut entries (list_from run choice old entries).records (list_from longer choice new others).records
+lists_sunk : (run longer : Run) (choice : Choice) (lines : List Line) (entries others : List Placed) (old new : Progress) → Runs run longer choice → AreOf lines entries → AreLater entries others → AllKept run longer entries others → NoneIsFromNobody entries others → Alike lines old new → StaysWithSinks entries (list_from run choice old entries).records (list_from longer choice new (with_lines entries others)).records
 lists_sunk run longer choice lines [] others old new whole own all kept nobody alike =
     inl (stay_grown old.records new.records (list_from longer choice new others).records alike.records (list_grows longer choice others new))
 lists_sunk run longer choice lines (placed ∷ entries) [] old new whole own all kept nobody alike = absurd all
@@ -614,12 +616,12 @@ lists_sunk run longer choice lines (placed ∷ entries) (other ∷ others) old n
     let it = all.0.it in
     let here : Alike placed.journal.lines old new = subst (λ (ls : List Line). Alike ls old new) (sym own.0) alike in
     let fine : Fine run longer placed it = record {
-      kept = subst (λ (one : Placed). IsKept run longer placed one) all.0.is kept.0;
-      nobody = subst (λ (one : Placed). (m : Message) → message_at placed ≡ None → message_at one ≡ Some m → is_nobody m.source ≡ false) all.0.is nobody.0;
+      kept = subst (λ (one : Placed). IsKept run longer placed one) all.0.is (kept_line run longer placed other placed.line kept.0);
+      nobody = λ m none known. nobody.0 m none (sym (message_line other placed.line) ∙ ap (λ (one : Placed). message_at one) all.0.is ∙ known);
     } in
-    subst (λ (one : Placed). StayBut (placed ∷ entries) (list_from run choice old (placed ∷ entries)).records (list_from longer choice new (one ∷ others)).records) (sym all.0.is)
-    (result_stays run longer choice placed it entries others old new here
-    (sunk_entry run longer choice placed it entries old new whole fine (subst (λ (one : Placed). (entries ≡ []) ⊎ IsOver placed one) all.0.is all.1) here)
+    subst (λ (one : Placed). StaysWithSinks (placed ∷ entries) (list_from run choice old (placed ∷ entries)).records (list_from longer choice new (one ∷ with_lines entries others)).records) (sym all.0.is)
+    (result_stays run longer choice placed it entries (with_lines entries others) old new here
+    (sunk_entry run longer choice placed it entries old new whole fine (over_there placed other it entries all.0.is all.1) here)
     (λ next also still. lists_sunk run longer choice lines entries others next also whole own.1 all.2 kept.1 nobody.1 (subst (λ (ls : List Line). Alike ls next also) own.0 still)))
 
 -- ---- A rank ----
@@ -629,9 +631,10 @@ makers_by run longer placed it entries false o told last is line = inl (λ also 
 makers_by run longer placed it entries true (Some one) told last is line = inl (told one refl is)
 makers_by run longer placed it entries true None told last is line = inr (last, is, rw (is, line) refl)
 
-pub what_is_told_stays_with_sinks : WhatIsToldStaysWithSinks
-what_is_told_stays_with_sinks run longer choice rank strict with_sinks read read_longer long kept nobody =
-    let all = λ (other : ℕ). entries_later run longer other read_longer (long.more other) (long.none_gone other) (long.none_moved other) in
+-- by the longer run's entries as if they were of the lines of the other's
+what_stays : (run longer : Run) (choice : Choice) (rank : ℕ) → choice.calls ≡ Strict → choice.unreported ≡ unreported.Sinks → IsRead run → IsRead longer → IsToldMore run longer → AllKept run longer (entries_at run rank) (entries_at longer rank) → NoneIsFromNobody (entries_at run rank) (entries_at longer rank) → StaysWithSinks (entries_at run rank) (whole_list run choice rank).records (list_from longer choice (progress_first longer rank) (with_lines (entries_at run rank) (entries_at longer rank))).records
+what_stays run longer choice rank strict with_sinks read read_longer long kept nobody =
+    let all = λ (other : ℕ). entries_later run longer other read read_longer (long.more other) (long.none_gone other) (long.none_moved other) in
     let waves = waves_same run longer read long.ranks long.numbers all in
     let whole : Runs run longer choice = record {
       both = record { strict = strict; with_sinks = with_sinks; numbers = long.numbers; windows = window_still run longer read_longer long.ranks long.more };
@@ -649,6 +652,20 @@ what_is_told_stays_with_sinks run longer choice rank strict with_sinks read read
       quiet = λ request sent. plain_quiet request 0 (preface_of run rank);
       covers = λ request none. refl;
     } in
-    subst (λ (progress : Progress). StayBut (entries_at run rank) (whole_list run choice rank).records (list_from longer choice progress (entries_at longer rank)).records)
+    subst (λ (progress : Progress). StaysWithSinks (entries_at run rank) (whole_list run choice rank).records (list_from longer choice progress (with_lines (entries_at run rank) (entries_at longer rank))).records)
     (sym (ap (λ (calls : List Call). first_with calls) (long.prefaces rank)))
     (lists_sunk run longer choice (lines_at run rank) (entries_at run rank) (entries_at longer rank) (progress_first run rank) (progress_first run rank) whole (all_of rank (journal_at run rank)) (all rank) kept nobody first)
+
+pub what_is_told_stays_with_sinks : WhatIsToldStaysWithSinks
+what_is_told_stays_with_sinks run longer choice rank strict with_sinks read read_longer long kept nobody =
+    subst (λ (entries : List Placed). StaysWithSinks (entries_at run rank) (whole_list run choice rank).records (list_from longer choice (progress_first longer rank) entries).records)
+    (same_lines run longer rank (long.more rank))
+    (what_stays run longer choice rank strict with_sinks read read_longer (told_more run longer long) kept nobody)
+
+pub what_is_told_between_stays_with_sinks : WhatIsToldBetweenStaysWithSinks
+what_is_told_between_stays_with_sinks run longer choice rank strict with_sinks read read_longer long kept nobody = (
+  (list_from longer choice (progress_first longer rank) (with_lines (entries_at run rank) (entries_at longer rank))).records,
+  what_stays run longer choice rank strict with_sinks read read_longer long kept nobody,
+  lists_same longer choice (entries_at run rank) (entries_at longer rank) (progress_first longer rank) strict
+      (as_many (entries_at run rank) (entries_at longer rank) (entries_later run longer rank read read_longer (long.more rank) (long.none_gone rank) (long.none_moved rank))),
+)

@@ -4,6 +4,7 @@ pub mod Free
 pub mod Laws
 pub mod Longer
 pub mod LongerSinks
+pub mod LongerTold
 pub mod Plain
 pub mod Same
 pub mod SinkPlaces

@@ -94,6 +94,9 @@ pub record StayButLast (old new : List Written) : Type 0 where
   pub own_line : list_all (λ one. one.line == line) own ≡ true
   pub stay : AllStay before new
 
+abbrev pub StaysWithSinks : List Placed → List Written → List Written → Type 0
+StaysWithSinks entries old new = AllStay old new ⊎ ((last_may_change entries ≡ true) × StayButLast old new)
+
 -- ---- The law ----
 
 -- a call so far isn't reported later to take a message from nobody
@@ -111,5 +114,4 @@ WhatIsToldStaysWithSinks =
     IsRead run → IsRead longer → IsLonger run longer →
     AllKept run longer (entries_at run rank) (entries_at longer rank) →
     NoneIsFromNobody (entries_at run rank) (entries_at longer rank) →
-    AllStay (whole_list run choice rank).records (whole_list longer choice rank).records
-    ⊎ ((last_may_change (entries_at run rank) ≡ true) × StayButLast (whole_list run choice rank).records (whole_list longer choice rank).records)
+    StaysWithSinks (entries_at run rank) (whole_list run choice rank).records (whole_list longer choice rank).records

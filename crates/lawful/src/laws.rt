@@ -6,6 +6,7 @@ ghost use Rattle.lawful.specs.Free.{EachFinalizeIsAnEnd, EachFinalizeIsListedThr
 ghost use Rattle.lawful.specs.Laws.{EachRecordingIsLawful, EachRecordingReadsBack};
 ghost use Rattle.lawful.specs.Longer.{WhatIsToldStays};
 ghost use Rattle.lawful.specs.LongerSinks.{WhatIsToldStaysWithSinks};
+ghost use Rattle.lawful.specs.LongerTold.{WhatIsToldBetweenStays, WhatIsToldBetweenStaysWithSinks};
 ghost use Rattle.lawful.specs.Plain.{EachPlainJournalStaysTheSame};
 ghost use Rattle.lawful.specs.Same.{OneNumberExactlyIfTheSame, CallsAreOnOneNumberExactlyIfOnOne, EachNumberHasItsGroup};
 ghost use Rattle.lawful.specs.SinkPlaces.{EachSinkHasItsPlace, NoneIsBehindASink, SinksAreInOrder};
@@ -116,14 +117,17 @@ pub fn what_is_so_far_stays()
     ensures { WhatIsSoFarStays }
 {}
 
-/// Where journals go on, with calls of any kind, each list begins with the records so far.
+/// Where journals go on, with calls of any kind, each list begins with the records so far. So it does, but for the numbers
+/// of lines, where messages of requests are reported among the lines so far too.
 pub fn what_is_told_stays()
-    ensures { WhatIsToldStays }
+    ensures behind { WhatIsToldStays }
+    ensures between { WhatIsToldBetweenStays }
 {}
 
-/// So each list does with sinks, but that in a sink's place a receive of a message that it takes may stand.
+/// So each list does in both cases with sinks, but that in a sink's place a receive of a message that it takes may stand.
 pub fn what_is_told_stays_with_sinks()
-    ensures { WhatIsToldStaysWithSinks }
+    ensures behind { WhatIsToldStaysWithSinks }
+    ensures between { WhatIsToldBetweenStaysWithSinks }
 {}
 
 /// What the making of a recording rests on is true of each run that was read.

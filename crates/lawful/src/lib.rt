@@ -9,7 +9,7 @@
 //! `specs/Free` has how lists end and what is told free, `specs/Same` which calls are on one communicator. `specs/Plain`
 //! says that journals of plain calls stay the same, `specs/SoFar` that what they have so far stays when they go on;
 //! `specs/Longer` says it of calls of all kinds, where all journals of the run go on, `specs/LongerSinks` of lists that
-//! have sinks.
+//! have sinks; `specs/LongerTold` says both where messages are reported among the lines so far too.
 //! `specs/SinkPlaces` has what sinks have in the lists that `judge` goes by: their places, and what is behind them.
 //!
 //! Lemmas: `RequestLemmas` what one call changes about requests, `StepLemmas` what a step adds, `TableLemmas` that
@@ -22,9 +22,10 @@
 //! numbers of requests, `FieldRanges`, `CalledRanges` and `RangedTable` the other ranges, `RangedLists` all of a list,
 //! `ReadLemmas` its text. `EndLemmas` has how lists end, `EndWords` and `JournalEnds` the last lines of journals,
 //! `FreeLemmas` all lists; `SameLemmas` has numbers of communicators, `PlainLemmas` what plain calls add, `PlainSteps`
-//! their lists, `SoFarLemmas` and `SoFarSteps` those of a journal that goes on. `LongerLemmas` has what such a journal says
-//! of each call, `LongerSteps` what the call stands for, `LongerMakers` and `LongerWaves` what makes communicators,
-//! `LongerWindows` that a cut run stays one, `LongerLists` the lists. Of those with sinks `SinkStays` has the numbers of requests, `SinkGoes` and `SinkTakes` what
+//! their lists, `SoFarLemmas` and `SoFarSteps` those of a journal that goes on. `LongerAmong` and `LongerLemmas` have what
+//! such a journal says of each call, `LongerSteps` what the call stands for, `LongerMakers` and `LongerWaves` what makes
+//! communicators, `LongerWindows` that a cut run stays one, `LongerLines` that numbers of lines change nothing else,
+//! `LongerLists` the lists. Of those with sinks `SinkStays` has the numbers of requests, `SinkGoes` and `SinkTakes` what
 //! comes of waits and of receives, `SinkEntries` all calls and the lists.
 //!
 //! `specs/Fit` says that what the making of a recording rests on is true of each run that was read. `RightLines` says that
