@@ -1,16 +1,17 @@
 -- The look for an entry at which a cut isn't clean, along the lists and along the ranks.
-use Rattle.std.proofs.Common.{◌≡◌, ◌∙◌, ◌<◌, ◌≤◌, ◌+◌, ◌-◌, ◌||◌, ◌&&◌, ◌==◌, not, ℕ, zero, suc, Bool, true, false, Option, Some, None, option_map, List, [], ◌∷◌, ◌++◌, drop, length, map, slice_get, refl, sym, ap, subst, arith}
-use Rattle.std.specs.Prelude.{is_some, option_and_then, option_to_list, unwrap_or, if◌then◌else◌}
+use Rattle.std.proofs.Common.{◌≡◌, ◌∙◌, ◌<◌, ◌≤◌, ◌+◌, ◌-◌, ◌||◌, ◌&&◌, ◌==◌, ◌⊎◌, inl, inr, not, ℕ, zero, suc, Bool, true, false, Option, Some, None, option_map, List, [], ◌∷◌, ◌++◌, drop, length, map, slice_get, refl, sym, ap, subst, arith}
+use Rattle.std.specs.Prelude.{is_some, option_to_list, slice_set, unwrap_or, if◌then◌else◌}
 use Rattle.std.specs.List.{list_all, range_with_len}
 use Rattle.std.proofs.lemmas.Bool.{eq-eqb, ne_eqb}
-use Rattle.std.proofs.lemmas.List.{drop_all, get_or-map, get_or-map-range_with_len, length-map-range_with_len}
+use Rattle.std.proofs.lemmas.List.{drop_all, get_or-map, length-map}
+use Rattle.std.proofs.lemmas.List.FromFn.{get_or-map-range_with_len, length-map-range_with_len}
 use Rattle.std.proofs.lemmas.Option.{unwrap_or-slice_get}
 use Rattle.mpicall.specs.declared.call.Call.{Call}
 use Rattle.mpicall.specs.Word.{or_else}
-use Rattle.mpigroup.specs.Groups.{Groups, group_of, size_of}
+use Rattle.mpigroup.specs.Groups.{Groups}
 use Rattle.callstore.specs.Recordings.{Lists, calls_of}
-use Rattle.callstore.specs.Waves.{is_full, member_of, place_in_wave}
-use Rattle.closing.specs.Entries.{Run, ranks_of}
+use Rattle.callstore.specs.Waves.{is_full, place_in_wave}
+use Rattle.closing.specs.Entries.{Run, is_window, lines_at, ranks_of}
 use Rattle.closing.specs.Entry.{Choice}
 use Rattle.closing.specs.Pending.{sinks_from}
 use Rattle.closing.specs.Recording.{Listed, calls_of as calls_in, list_of, recording_of}
@@ -24,9 +25,10 @@ use Rattle.windows.specs.Clean.{has_all}
 use Rattle.closing.specs.Numbers.{groups_of}
 use Rattle.closing.specs.Recordings.{RecordingView}
 use Rattle.judging.specs.NamedCalls.{line_in, lines_of}
-use Rattle.judging.specs.UnderWay.{EntryAt, first_at, first_from, first_of, is_under_way, moved_of, takes_moved}
-use Rattle.judging.specs.inner.Cuts.{IsGathered, is_at}
+use Rattle.judging.specs.UnderWay.{EntryAt, first_at, first_from, first_of, is_under_way, moved_of, takes_moved, unclean_at}
+use Rattle.judging.specs.inner.Cuts.{AreFullBelow, IsGathered, count_in, is_at}
 use Rattle.judging.specs.inner.Tables.{row_at}
+use Rattle.judging.specs.declared.under_way.FullWaves.{FullWaves}
 use Rattle.judging.specs.declared.under_way.MovedReceive.{MovedReceive}
 
 -- ---- Sinks ----
@@ -37,11 +39,12 @@ first_sink place records = option_map (λ sink. sink.place) (slice_get (sinks_fr
 
 sink_beyond : (place : ℕ) (records : List Written) (n : ℕ) → first_sink place records ≡ Some n → place ≤ n
 sink_beyond place [] n is = cc
-sink_beyond place (one ∷ records) n is = by (sink_in one.starts) is
+sink_beyond place (one ∷ records) n is = by (sink_in one.starts) (λ beyond. sink_beyond (suc place) records n beyond) is
   where
-    by : (wanted : Option Wanted) → option_map (λ sink. sink.place) (slice_get (option_to_list (option_map (λ it. record { place = place; wanted = it }) wanted) ++ sinks_from (suc place) records) 0) ≡ Some n → place ≤ n
-    by (Some wanted) h = let same : place ≡ n = cc in omega (arith, same)
-    by None h = let later = sink_beyond (suc place) records n h in omega (arith, later)
+    by : (wanted : Option Wanted) → (first_sink (suc place) records ≡ Some n → suc place ≤ n)
+        → option_map (λ sink. sink.place) (slice_get (option_to_list (option_map (λ it. record { place = place; wanted = it }) wanted) ++ sinks_from (suc place) records) 0) ≡ Some n → place ≤ n
+    by (Some wanted) later h = let same : place ≡ n = cc in omega (arith, same)
+    by None later h = let beyond : suc place ≤ n = later h in omega (arith, beyond)
 
 -- the first sink is at the place of the first record, or behind it
 pub sink_here : (place : ℕ) (one : Written) (records : List Written) → is_at (first_sink place (one ∷ records)) place ≡ is_some (sink_in one.starts)
@@ -135,60 +138,19 @@ slice_below (it ∷ list) zero later within is = refl
 slice_below (it ∷ list) (suc place) zero within is = absurd (omega (arith, within))
 slice_below (it ∷ list) (suc place) (suc later) within is = slice_below list place later (omega (arith, within)) is
 
-all_of : (first then : ℕ → Bool) (ranks : List ℕ) → ((rank : ℕ) → first rank ≡ true → then rank ≡ true) → list_all first ranks ≡ true → list_all then ranks ≡ true
-all_of first then [] says is = refl
-all_of first then (rank ∷ ranks) says is = by (first rank) refl is
+all_of : (first next : ℕ → Bool) (ranks : List ℕ) → ((rank : ℕ) → first rank ≡ true → next rank ≡ true) → list_all first ranks ≡ true → list_all next ranks ≡ true
+all_of first next [] says is = refl
+all_of first next (rank ∷ ranks) says is = by (first rank) refl (λ rest. all_of first next ranks says rest) is
   where
-    by : (b : Bool) → first rank ≡ b → (b && list_all first ranks) ≡ true → (then rank && list_all then ranks) ≡ true
-    by true own rest = ap (λ (b : Bool). b && list_all then ranks) (says rank own) ∙ all_of first then ranks says rest
-    by false own rest = cc
+    by : (b : Bool) → first rank ≡ b → (list_all first ranks ≡ true → list_all next ranks ≡ true) → (b && list_all first ranks) ≡ true → (next rank && list_all next ranks) ≡ true
+    by true own others rest = ap (λ (b : Bool). b && list_all next ranks) (says rank own) ∙ others rest
+    by false own others rest = cc
 
 -- a wave is full if a later one of its communicator is
 pub full_below : (groups : Groups) (recording : Lists) (comm wave later : ℕ) → wave ≤ later → is_full groups recording comm later ≡ true → is_full groups recording comm wave ≡ true
 full_below groups recording comm wave later within is =
     all_of (λ rank. is_some (place_in_wave recording comm later rank)) (λ rank. is_some (place_in_wave recording comm wave rank)) _
     (λ rank own. slice_below _ wave later within own) is
-
--- a communicator has as many members as are counted
-pub size_is : (groups : Groups) (comm size : ℕ) → Some size ≡ size_of groups comm → length (group_of groups comm) ≡ size
-size_is groups comm size is = by (slice_get groups comm) is
-  where
-    by : (group : Option (List ℕ)) → Some size ≡ option_map length group → length (unwrap_or group []) ≡ size
-    by (Some group) e = cc
-    by None e = cc
-
-pub size_none : (groups : Groups) (comm : ℕ) → None ≡ size_of groups comm → group_of groups comm ≡ []
-size_none groups comm is = by (slice_get groups comm) is
-  where
-    by : (group : Option (List ℕ)) → None ≡ option_map length group → unwrap_or group [] ≡ []
-    by (Some group) e = cc
-    by None e = refl
-
-module _ (groups : Groups) (recording : Lists) (comm wave : ℕ) where
-  abbrev all_from : ℕ → Bool
-  all_from member = list_all (λ rank. is_some (place_in_wave recording comm wave rank)) (drop member (group_of groups comm))
-
-  -- one member more has its call of the wave, or hasn't
-  pub member_step : (member : ℕ) → member < length (group_of groups comm) → all_from member ≡ (is_some (member_of groups recording comm wave member) && all_from (member + 1))
-  member_step member within = subst (λ (n : ℕ). all_from member ≡ (is_some (member_of groups recording comm wave member) && all_from n)) (sym (plus_one member)) (from (group_of groups comm) member within)
-    where
-      plus_one : (n : ℕ) → n + 1 ≡ suc n
-      plus_one n = omega arith
-
-      from : (group : List ℕ) (n : ℕ) → n < length group → list_all (λ rank. is_some (place_in_wave recording comm wave rank)) (drop n group)
-          ≡ (is_some (option_and_then (place_in_wave recording comm wave) (slice_get group n)) && list_all (λ rank. is_some (place_in_wave recording comm wave rank)) (drop (suc n) group))
-      from [] n h = absurd (omega (arith, h))
-      from (rank ∷ group) zero h = refl
-      from (rank ∷ group) (suc n) h = from group n (omega (arith, h))
-
-  pub members_end : (member : ℕ) → length (group_of groups comm) ≤ member → all_from member ≡ true
-  members_end member past = from (group_of groups comm) member past
-    where
-      from : (group : List ℕ) (n : ℕ) → length group ≤ n → list_all (λ rank. is_some (place_in_wave recording comm wave rank)) (drop n group) ≡ true
-      from [] zero h = refl
-      from [] (suc n) h = refl
-      from (rank ∷ group) zero h = absurd (omega (arith, h))
-      from (rank ∷ group) (suc n) h = from group n (omega (arith, h))
 
 -- ---- Ranks ----
 
@@ -244,3 +206,133 @@ module _ (it : RecordingView) (rows : List (List ℕ)) (analysed : Analysed) (ra
         ∙ ap (λ (c : Call). is_at sink place || (not (has_all (groups_of it.run) (map calls_in (recording_of it.run it.choice).lists) rank place) || takes_moved moved c)) at.call_is
         ∙ ap (λ (l : Lists). is_at sink place || (not (has_all (groups_of it.run) l rank place) || takes_moved moved call)) (sym gathered.calls)
         ∙ ap (λ (g : Groups). is_at sink place || (not (has_all g analysed.recording rank place) || takes_moved moved call)) (sym gathered.groups)
+
+  -- a place before the list's end has a call
+  pub call_there : (place : ℕ) → place < length (calls_of analysed.recording rank) - 1 → slice_get (calls_of analysed.recording rank) place ≡ None → ⊥
+  call_there place below none = some (calls_of analysed.recording rank) place (omega (arith, below)) none
+    where
+      some : (calls : List Call) (n : ℕ) → n < length calls → slice_get calls n ≡ None → ⊥
+      some [] n h e = absurd (omega (arith, h))
+      some (call ∷ calls) zero h e = cc
+      some (call ∷ calls) (suc n) h e = some calls n (omega (arith, h)) e
+
+  abbrev all_groups : Groups
+  all_groups = groups_of it.run
+
+  abbrev all_lists : Lists
+  all_lists = map calls_in (recording_of it.run it.choice).lists
+
+  abbrev own_lines : List Line
+  own_lines = lines_at it.run rank
+
+  abbrev is_met : (place : ℕ) (call : Call) (moved : List MovedReceive) (sink : Option ℕ) → Bool
+  is_met place call moved sink = is_at sink place || (not (has_all analysed.groups analysed.recording rank place) || takes_moved moved call)
+
+  -- with no record so far
+  pub begins : (moved : List MovedReceive) → moved ≡ [] → first_from all_groups all_lists rank own_lines 0 moved (drop 0 own.records) ≡ first_at it.run it.choice rank
+  begins moved none = ap (λ (moved : List MovedReceive). first_from all_groups all_lists rank own_lines 0 moved own.records) none
+
+  -- as the code says it
+  pub met_is : (place : ℕ) (call : Call) (moved : List MovedReceive) (sink : Option ℕ) (met at_sink all takes : Bool) → met ≡ (at_sink || (not all || takes)) → at_sink ≡ is_at sink place
+      → all ≡ has_all analysed.groups analysed.recording rank place → takes ≡ takes_moved moved call → met ≡ is_met place call moved sink
+  met_is place call moved sink met at_sink all takes is sinks others moves = cc
+
+  module _ (place : ℕ) (call : Call) (moved : List MovedReceive) (sink : Option ℕ) (line : ℕ) (below : place < length (calls_of analysed.recording rank) - 1) (at : slice_get (calls_of analysed.recording rank) place ≡ Some call)
+      (line_said : line ≡ line_in rows rank place) (sinks : sink ≡ first_sink place (drop place own.records))
+      (so_far : first_from all_groups all_lists rank own_lines place moved (drop place own.records) ≡ first_at it.run it.choice rank) where
+    abbrev there : IsRecordAt own.records place call (line_in rows rank place)
+    there = record_there place call below at
+
+    from_there : first_from all_groups all_lists rank own_lines place moved (there.one ∷ drop (suc place) own.records) ≡ first_at it.run it.choice rank
+    from_there = ap (first_from all_groups all_lists rank own_lines place moved) (sym there.rest) ∙ so_far
+
+    -- something is under way with it
+    pub first_there : is_met place call moved sink ≡ true → Some line ≡ first_at it.run it.choice rank
+    first_there met =
+        ap (λ (n : ℕ). Some n) (line_said ∙ sym there.line_is)
+        ∙ sym (found_here all_groups all_lists rank own_lines place moved there.one (drop (suc place) own.records) (under_way_is place call moved there sink sinks ∙ met))
+        ∙ from_there
+
+    -- nothing is
+    module _ (met : is_met place call moved sink ≡ false) where
+      pub sinks_next : sink ≡ first_sink (place + 1) (drop (place + 1) own.records)
+      sinks_next =
+          let none : is_some (sink_in there.one.starts) ≡ false = sym (sink_here place there.one (drop (suc place) own.records)) ∙ ap (λ (s : Option ℕ). is_at s place) (sym (sinks ∙ ap (first_sink place) there.rest)) ∙ no_sink (is_at sink place) _ met in
+          subst (λ (n : ℕ). sink ≡ first_sink n (drop n own.records)) (sym (one_more place))
+          (sinks ∙ ap (first_sink place) there.rest ∙ sink_later place there.one (drop (suc place) own.records) none)
+        where
+          one_more : (n : ℕ) → n + 1 ≡ suc n
+          one_more n = omega arith
+
+      pub first_next : first_from all_groups all_lists rank own_lines (place + 1) (moved ++ option_to_list (moved_of own_lines line call)) (drop (place + 1) own.records) ≡ first_at it.run it.choice rank
+      first_next =
+          subst (λ (n : ℕ). first_from all_groups all_lists rank own_lines n (moved ++ option_to_list (moved_of own_lines line call)) (drop n own.records) ≡ first_at it.run it.choice rank) (sym (one_more place))
+          (ap (λ (n : ℕ). first_from all_groups all_lists rank own_lines (suc place) (moved ++ option_to_list (moved_of own_lines n call)) (drop (suc place) own.records)) (line_said ∙ sym there.line_is)
+          ∙ ap (λ (one : Call). first_from all_groups all_lists rank own_lines (suc place) (moved ++ option_to_list (moved_of own_lines there.one.line one)) (drop (suc place) own.records)) (sym there.call_is)
+          ∙ sym (found_later all_groups all_lists rank own_lines place moved there.one (drop (suc place) own.records) (under_way_is place call moved there sink sinks ∙ met))
+          ∙ from_there)
+        where
+          one_more : (n : ℕ) → n + 1 ≡ suc n
+          one_more n = omega arith
+
+      -- with the moved receive that it is
+      pub next_with : (found : Option MovedReceive) (now_moved : List MovedReceive) → found ≡ moved_of own_lines line call → now_moved ≡ moved ++ option_to_list found
+          → first_from all_groups all_lists rank own_lines (place + 1) now_moved (drop (place + 1) own.records) ≡ first_at it.run it.choice rank
+      next_with found now_moved is all =
+          ap (λ (moved : List MovedReceive). first_from all_groups all_lists rank own_lines (place + 1) moved (drop (place + 1) own.records)) (all ∙ ap (λ (o : Option MovedReceive). moved ++ option_to_list o) is) ∙ first_next
+
+  -- no record is left
+  pub first_none : (place : ℕ) (moved : List MovedReceive) → length (calls_of analysed.recording rank) - 1 ≤ place →
+      first_from all_groups all_lists rank own_lines place moved (drop place own.records) ≡ first_at it.run it.choice rank → None ≡ first_at it.run it.choice rank
+  first_none place moved past so_far = ap (first_from all_groups all_lists rank own_lines place moved) (sym (none_there place past)) ∙ so_far
+
+-- as many ranks are gathered as the run has
+pub many_gathered : (it : RecordingView) (rows : List (List ℕ)) (analysed : Analysed) → IsGathered it rows analysed → length analysed.recording ≡ length it.run
+unfolding recording_of
+many_gathered it rows analysed gathered =
+    ap (λ (l : Lists). length l) gathered.calls ∙ length-map (map (list_of it.run it.choice) (ranks_of it.run)) calls_in ∙ length-map-range_with_len (list_of it.run it.choice) 0 (length it.run)
+
+-- ---- The run ----
+
+module _ (run : Run) (choice : Choice) where
+  module _ (rank : ℕ) (so_far : first_of (first_at run choice) (range_with_len rank (length run - rank)) ≡ unclean_at run choice) where
+    pub found_of : (line : ℕ) → rank < length run → Some line ≡ first_at run choice rank → Some (record { rank = rank; line = line }) ≡ unclean_at run choice
+    found_of line within is =
+        sym (first_is (first_at run choice) rank line (range_with_len (rank + 1) (length run - (rank + 1))) (sym is))
+        ∙ ap (first_of (first_at run choice)) (sym (ranks_more rank (length run) within)) ∙ so_far
+
+    pub next_of : rank < length run → None ≡ first_at run choice rank → first_of (first_at run choice) (range_with_len (rank + 1) (length run - (rank + 1))) ≡ unclean_at run choice
+    next_of within is =
+        sym (first_is_later (first_at run choice) rank (range_with_len (rank + 1) (length run - (rank + 1))) (sym is))
+        ∙ ap (first_of (first_at run choice)) (sym (ranks_more rank (length run) within)) ∙ so_far
+
+    pub none_of : length run ≤ rank → None ≡ unclean_at run choice
+    none_of past = ap (first_of (first_at run choice)) (sym (ranks_end rank (length run) past)) ∙ so_far
+
+-- ---- Waves that are known to be full ----
+
+-- up to a wave that is full
+pub more_full : (groups : Groups) (recording : Lists) (old new : FullWaves) (comm wave count : ℕ) → AreFullBelow groups recording old → is_full groups recording comm wave ≡ true → count ≤ suc wave →
+    new.counts.items ≡ slice_set old.counts.items comm count → AreFullBelow groups recording new
+more_full groups recording old new comm wave count kept full most is other earlier below =
+    by (set_at old.counts.items comm other count)
+  where
+    set_at : (counts : List ℕ) (k j n : ℕ) → (unwrap_or (slice_get (slice_set counts k n) j) 0 ≡ unwrap_or (slice_get counts j) 0) ⊎ ((j ≡ k) × (unwrap_or (slice_get (slice_set counts k n) j) 0 ≡ n))
+    set_at [] k j n = inl refl
+    set_at (count ∷ counts) zero zero n = inr (refl, refl)
+    set_at (count ∷ counts) zero (suc j) n = inl refl
+    set_at (count ∷ counts) (suc k) zero n = inl refl
+    set_at (count ∷ counts) (suc k) (suc j) n =
+        elim (set_at counts k j n) [
+          | inl same ↦ inl same
+          | inr set ↦ inr (ap (λ (i : ℕ). suc i) set.0, set.1)
+        ]
+
+    now_is : count_in new other ≡ unwrap_or (slice_get (slice_set old.counts.items comm count) other) 0
+    now_is = ap (λ (counts : List ℕ). unwrap_or (slice_get counts other) 0) is
+
+    by : (unwrap_or (slice_get (slice_set old.counts.items comm count) other) 0 ≡ count_in old other) ⊎ ((other ≡ comm) × (unwrap_or (slice_get (slice_set old.counts.items comm count) other) 0 ≡ count)) → is_full groups recording other earlier ≡ true
+    by (inl same) = kept other earlier (omega (arith, below, now_is, same))
+    by (inr set) =
+        let within : earlier ≤ wave = omega (arith, below, now_is, set.1, most) in
+        subst (λ (c : ℕ). is_full groups recording c earlier ≡ true) (sym set.0) (full_below groups recording comm earlier wave within full)
