@@ -31,7 +31,7 @@ use Rattle.judging.specs.declared.judge.JudgeFault.{JudgeFault}
 use Rattle.judging.specs.declared.judge.JudgeFault.TheVariants.{Read, Head, Refused, Unended, Unclean, Memory, Write}
 use Rattle.judging.specs.declared.judge.Manner.{Manner}
 use Rattle.judging.specs.UnderWay.{EntryAt, unclean_at}
-use Rattle.judging.specs.inner.Cuts.{IsGathered, IsGatheredIfCut, IsOfCut}
+use Rattle.judging.specs.inner.Cuts.{IsGatheredIfCut, IsOfCut}
 use Rattle.judging.specs.inner.Reported.{IsLined, IsReportedOf, IsRunOf, IsLate}
 use Rattle.judging.specs.inner.Tables.{HasAllLines}
 use Rattle.judging.specs.inner.Turns.{HasAll, IsDone, IsFresh}

@@ -1,5 +1,5 @@
 -- The look for an entry at which a cut isn't clean, along the lists and along the ranks.
-use Rattle.std.proofs.Common.{◌≡◌, ◌∙◌, ◌<◌, ◌≤◌, ◌+◌, ◌-◌, ◌||◌, ◌&&◌, ◌==◌, ◌⊎◌, inl, inr, not, ℕ, zero, suc, Bool, true, false, Option, Some, None, option_map, List, [], ◌∷◌, ◌++◌, drop, length, map, slice_get, refl, sym, ap, subst, arith}
+use Rattle.std.proofs.Common.{◌≡◌, ◌∙◌, ◌<◌, ◌≤◌, ◌+◌, ◌-◌, ◌||◌, ◌&&◌, ◌⊎◌, inl, inr, not, ℕ, zero, suc, Bool, true, false, Option, Some, None, option_map, List, [], ◌∷◌, ◌++◌, drop, length, map, slice_get, refl, sym, ap, subst, arith}
 use Rattle.std.specs.Prelude.{is_some, option_to_list, slice_set, unwrap_or, if◌then◌else◌}
 use Rattle.std.specs.List.{list_all, range_with_len}
 use Rattle.std.proofs.lemmas.Bool.{eq-eqb, ne_eqb}
@@ -11,13 +11,12 @@ use Rattle.mpicall.specs.Word.{or_else}
 use Rattle.mpigroup.specs.Groups.{Groups}
 use Rattle.callstore.specs.Recordings.{Lists, calls_of}
 use Rattle.callstore.specs.Waves.{is_full, place_in_wave}
-use Rattle.closing.specs.Entries.{Run, is_window, lines_at, ranks_of}
+use Rattle.closing.specs.Entries.{Run, lines_at, ranks_of}
 use Rattle.closing.specs.Entry.{Choice}
 use Rattle.closing.specs.Pending.{sinks_from}
 use Rattle.closing.specs.Recording.{Listed, calls_of as calls_in, list_of, recording_of}
 use Rattle.closing.specs.Sinks.{sink_in}
 use Rattle.closing.specs.Steps.{Written}
-use Rattle.closing.specs.declared.pending.Sink.{Sink}
 use Rattle.closing.specs.declared.pending.Wanted.{Wanted}
 use Rattle.journals.specs.Lines.{Line}
 use Rattle.moves.specs.Analysed.{Analysed}
@@ -25,7 +24,7 @@ use Rattle.windows.specs.Clean.{has_all}
 use Rattle.closing.specs.Numbers.{groups_of}
 use Rattle.closing.specs.Recordings.{RecordingView}
 use Rattle.judging.specs.NamedCalls.{line_in, lines_of}
-use Rattle.judging.specs.UnderWay.{EntryAt, first_at, first_from, first_of, is_under_way, moved_of, takes_moved, unclean_at}
+use Rattle.judging.specs.UnderWay.{first_at, first_from, first_of, is_under_way, moved_of, takes_moved, unclean_at}
 use Rattle.judging.specs.inner.Cuts.{AreFullBelow, IsGathered, count_in, is_at}
 use Rattle.judging.specs.inner.Tables.{row_at}
 use Rattle.judging.specs.declared.under_way.FullWaves.{FullWaves}

@@ -1,5 +1,5 @@
 -- How far an analyser and the lines of calls have come with the lists of a recording.
-use Rattle.std.specs.Prelude.{◌≡◌, ◌<◌, ◌≤◌, ℕ, ◌+◌, ◌-◌, ◌^◌, None, List, [], ◌∷◌, ◌++◌, length, map, take, replicate, slice_set, ⊤}
+use Rattle.std.specs.Prelude.{◌≡◌, ◌<◌, ◌≤◌, ℕ, ◌-◌, ◌^◌, None, List, [], ◌∷◌, ◌++◌, length, map, take, replicate, slice_set, ⊤}
 use Rattle.mpicall.specs.declared.call.Call.{Call}
 use Rattle.mpigroup.specs.Groups.{Groups}
 use Rattle.callstore.specs.Recordings.{Lists, calls_of}

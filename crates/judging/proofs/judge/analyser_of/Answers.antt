@@ -1,5 +1,5 @@
 -- All of the lists, or want of memory.
-use Rattle.std.proofs.Common.{◌≡◌, ◌∙◌, true, false, sym}
+use Rattle.std.proofs.Common.{◌≡◌, ◌∙◌, sym}
 use Rattle.std.proofs.lemmas.Bool.{false≢true}
 use Rattle.lawful.specs.Laws.{IsRead}
 use Rattle.judging.specs.declared.judge.JudgeFault.TheVariants.{Memory}

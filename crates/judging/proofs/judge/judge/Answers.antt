@@ -1,13 +1,14 @@
 -- The report of the run that the files hold.
-use Rattle.std.proofs.Common.{ℕ, List, sym, subst}
+use Rattle.std.proofs.Common.{ℕ, List, refl, sym, subst}
 use Rattle.std.specs.Io.KnownBytes.{Appends}
 use Rattle.judging.specs.Judging.{IsFaultOfJudge, IsJudgedReport, LeavesAt}
 use Rattle.judging.specs.declared.judge.JudgeFault.{JudgeFault}
+use Rattle.judging.specs.declared.judge.JudgeFault.TheVariants.{Memory}
 use Rattle.judging.specs.inner.Known.{known_in}
 use Rattle.judging.specs.inner.Reported.{IsLate, IsReportedOf}
 use Rattle.judging.specs.inner.Tables.{rows_of}
 use Rattle.judging.proofs.JudgeLemmas.{err_as, if_ok, if_err, judged_report, judge_fault, cut_fault, late_fault}
-use Rattle.judging.proofs.UnwrittenLemmas.{leaves_memory}
+use Rattle.judging.proofs.UnwrittenLemmas.{leaves_memory, leaves_of_cut}
 use Rattle.judging.proofs.judge.judge.Goals as goal
 
 pub returns-in_err-analyser-clause-fault : goal.returns-in_err-analyser-clause-fault
@@ -24,6 +25,22 @@ returns-in_err-check_cut-clause-fault g c =
     err_as c.from_residual-in_err-check_cut.result c.in_err-check_cut.field-0.0 (IsFaultOfJudge known c.args.manner.choice) c.from_residual-in_err-check_cut.ensures.1
     (cut_fault known c.args.manner c.in_ok-lists.lists.recording lists.run lists.fresh c.analyser_of.new.lists.recording c.in_ok-analyser.analyser lists.choice c.in_ok-analyser.ensures.all
     (rows_of c.analyser_of.new.lists.table) (λ fresh read cut. c.in_ok-analyser.ensures.table fresh read (lists.window cut)) c.in_err-check_cut.field-0.0 c.in_err-check_cut.ensures.fault)
+
+pub returns-in_err-check_cut-clause-output : goal.returns-in_err-check_cut-clause-output
+returns-in_err-check_cut-clause-output g c =
+    let written = g.O.Output.written in
+    let failures = g.O.Output.failures in
+    let out = c.args.out.now in
+    err_as c.from_residual-in_err-check_cut.result c.in_err-check_cut.field-0.0 (LeavesAt written failures out out) c.from_residual-in_err-check_cut.ensures.1
+    (leaves_of_cut written failures out c.analyser_of.new.lists.recording (rows_of c.analyser_of.new.lists.table) c.in_ok-analyser.analyser c.in_err-check_cut.field-0.0 c.in_err-check_cut.ensures.fault)
+
+pub returns-in_err-known-clause-fault : goal.returns-in_err-known-clause-fault
+returns-in_err-known-clause-fault g c =
+    err_as c.from_residual-in_err-known.result Memory (IsFaultOfJudge (g.J.Journals.known c.args.journals.now) c.args.manner.choice) c.from_residual-in_err-known.ensures.1 tt
+
+pub returns-in_err-known-clause-output : goal.returns-in_err-known-clause-output
+returns-in_err-known-clause-output g c =
+    err_as c.from_residual-in_err-known.result Memory (LeavesAt g.O.Output.written g.O.Output.failures c.args.out.now c.args.out.now) c.from_residual-in_err-known.ensures.1 refl
 
 pub returns-in_err-graph-clause-fault : goal.returns-in_err-graph-clause-fault
 returns-in_err-graph-clause-fault g c =

@@ -12,7 +12,7 @@ pub returns-clause-table : goal.returns-clause-table
 returns-clause-table g c = λ json.
     let it = c.in_ok-recording.recording in
     record {
-      wanted = c.in_ok-table.ensures.wanted ∙ c.is_either.ensures ∙ ap (λ (b : Bool). b || c.is_window.result) (c.has_lines.ensures json);
+      wanted = c.in_ok-table.ensures.wanted ∙ c.is_either-is_wanted.ensures ∙ ap (λ (b : Bool). b || c.is_window.result) (c.has_lines.ensures json);
       rows = lines_begun it (rows_of c.in_ok-table.table) c.ranks.result c.in_ok-recording.ensures.handed c.in_ok-recording.ensures.before c.in_ok-table.ensures.none c.ranks.ensures.ranks;
     }
 
@@ -20,7 +20,7 @@ pub returns-clause-window : goal.returns-clause-window
 returns-clause-window g c = λ cut.
     let it = c.in_ok-recording.recording in
     record {
-      wanted = c.in_ok-table.ensures.wanted ∙ c.is_either.ensures ∙ ap (λ (b : Bool). c.has_lines.result || b) (c.is_window.ensures ∙ cut) ∙ or_true c.has_lines.result;
+      wanted = c.in_ok-table.ensures.wanted ∙ c.is_either-is_wanted.ensures ∙ ap (λ (b : Bool). c.has_lines.result || b) (c.is_window.ensures ∙ cut) ∙ or_true c.has_lines.result;
       rows = lines_begun it (rows_of c.in_ok-table.table) c.ranks.result c.in_ok-recording.ensures.handed c.in_ok-recording.ensures.before c.in_ok-table.ensures.none c.ranks.ensures.ranks;
     }
   where

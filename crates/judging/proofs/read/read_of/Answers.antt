@@ -1,5 +1,5 @@
 -- What the journal says, and that it is there.
-use Rattle.std.proofs.Common.{◌≡◌, ◌<◌, ◌∙◌, ℕ, false, not, Option, Some, None, List, Ok, Err, option_map, sym, ap, subst, arith}
+use Rattle.std.proofs.Common.{◌≡◌, ◌<◌, ◌∙◌, ℕ, not, Option, Some, None, List, Ok, Err, option_map, sym, ap, subst, arith}
 use Rattle.std.specs.Option.{option_copied}
 use Rattle.journals.specs.Inputs.{text_left}
 use Rattle.journals.specs.JournalAnswers.{heading_in, AnswersJournal}

@@ -1,10 +1,9 @@
 -- Something is under way with the next record, or nothing is; none is left.
-use Rattle.std.proofs.Common.{◌≡◌, ◌<◌, ◌∙◌, ◌++◌, ◌-◌, ℕ, Option, Some, None, List, option_map, length, slice_get, sym, ap, subst, arith}
+use Rattle.std.proofs.Common.{◌≡◌, ◌<◌, ◌∙◌, ◌++◌, ◌-◌, Option, Some, List, option_map, length, slice_get, sym, ap, arith}
 use Rattle.std.specs.Prelude.{option_to_list}
 use Rattle.std.proofs.lemmas.List.{append-nil}
 use Rattle.callstore.specs.Recordings.{Lists, calls_of}
 use Rattle.closing.specs.Entries.{lines_at}
-use Rattle.closing.specs.Recording.{list_of}
 use Rattle.closing.specs.declared.pending.Sink.{Sink}
 use Rattle.closing.specs.inner.RequestReports.{Tells}
 use Rattle.lawful.proofs.ReadRuns.{fit_of_read}
