@@ -1,7 +1,7 @@
 /* Waits and tests. See calls.h. */
 #define _GNU_SOURCE
-#include "calls.h"
 #include "strict.h"
+#include "sums.h"
 
 enum { FEW = 64 };
 
@@ -143,7 +143,8 @@ static void report_choice(Asked *asked, int count, const int places[]) {
 
 /* ---- Completed requests ------------------------------------------------------------------------ */
 
-static void report_end(int number, bool wild, const Request *request, const MPI_Status *status) {
+/* Answers whether it was cancelled. */
+static bool report_end(int number, bool wild, const Request *request, const MPI_Status *status) {
     int gone = 0;
     if (request->cancelled)
         REAL(Test_cancelled)(status, &gone);
@@ -151,6 +152,19 @@ static void report_end(int number, bool wild, const Request *request, const MPI_
         journal_done(number, status->MPI_SOURCE, status->MPI_TAG);
     else if (request->cancelled)
         REPORT(gone ? "=gone" : "=kept", number);
+    return gone;
+}
+
+/* One that both sends and receives has two ends. */
+static void report_ends(const Request *request, const MPI_Status *status) {
+    bool first = false, last = false;
+    if (status)
+        first = last = report_end(request->number, request->wild && !request->second, request, status);
+    if (status && request->second)
+        last = report_end(request->second, request->wild, request, status);
+    if (request->cancelled && !status)
+        in_doubt = true;
+    settles(request, first, last, status);
 }
 
 /* A request is no longer in use. A persistent one may be started again. */
@@ -175,15 +189,13 @@ static void finish(uintptr_t handle, const MPI_Status *status) {
     if (!request || !request->active)
         return;
     int number = request->number;
-    if (number && status) {
-        report_end(number, request->wild && !request->second, request, status);
-        if (request->second)
-            report_end(request->second, request->wild, request, status);
-    }
+    if (number)
+        report_ends(request, status);
     MPI_Comm made = made_by(request);
+    uint64_t origin = request->origin;
     drop(handle);
     if (number && made != MPI_COMM_NULL)
-        adopt_duplicate(number, made);
+        adopt_duplicate(number, made, origin);
 }
 
 /* The requests at these places (NULL: all) completed. */

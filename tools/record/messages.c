@@ -20,6 +20,13 @@ void report_message(int number, int source, int result, const MPI_Status *status
         REPORT("=got", status->MPI_SOURCE, status->MPI_TAG);
 }
 
+/* The same of a receive, which completed. */
+static void report_received(int number, int source, int result, const MPI_Status *status) {
+    report_message(number, source, result, status);
+    if (number != UNNUMBERED && result == MPI_SUCCESS && is_recorded())
+        receives(number, source == MPI_PROC_NULL ? NULL_PEER : status->MPI_SOURCE, status->MPI_TAG);
+}
+
 /* ---- Sends ------------------------------------------------------------------------------------- */
 
 /* `Synchronous` is what a standard send becomes in a strict run. Other sends name themselves. */
@@ -31,6 +38,7 @@ void report_message(int number, int source, int result, const MPI_Status *status
         int number = BEGINS ? numbered(comm, unnumbered) : UNNUMBERED; \
         if (number != UNNUMBERED) \
             PUT(word, number, receiver(dest), tag, is_standard(word) ? bytes(count, type) : UNKNOWN); \
+        sends(number, receiver(dest), tag); \
         return over(CALL_SEND(Name, Synchronous, (data, count, type, dest, tag, comm))); \
     } \
     ALSO_PMPI(Name)
@@ -43,9 +51,11 @@ void report_message(int number, int source, int result, const MPI_Status *status
         if (request) \
             PUT(word, request, number, receiver(dest), tag, \
                 is_standard(word) ? bytes(count, type) : UNKNOWN); \
+        uint64_t sent = sends(number, receiver(dest), tag); \
         int result = CALL_SEND(Name, Synchronous, (data, count, type, dest, tag, comm, handle)); \
-        if (is_recorded() && result == MPI_SUCCESS) \
-            started(handle, request); \
+        Request *known = is_recorded() && result == MPI_SUCCESS ? started(handle, request) : NULL; \
+        if (known) \
+            known->sent = sent; \
         return over(result); \
     } \
     ALSO_PMPI(Name)
@@ -81,7 +91,7 @@ ISEND(Irsend_c, Irsend_c, MPI_Count, "irsend")
             PUT("recv", number, sender(source), tag_of_receive(tag)); \
         int result = \
             CALL(Name, (data, count, type, source, tag, comm, number == UNNUMBERED ? status : seen)); \
-        report_message(number, source, result, seen); \
+        report_received(number, source, result, seen); \
         return over(result); \
     } \
     ALSO_PMPI(Name)
@@ -96,7 +106,7 @@ ISEND(Irsend_c, Irsend_c, MPI_Count, "irsend")
         int result = CALL(Name, (data, count, type, source, tag, comm, handle)); \
         Request *known = is_recorded() && result == MPI_SUCCESS ? started(handle, request) : NULL; \
         if (known) \
-            known->wild = is_wild(source, tag); \
+            known->wild = is_wild(source, tag), known->receive = receive_of(number, source, tag); \
         return over(result); \
     } \
     ALSO_PMPI(Name)
@@ -119,12 +129,13 @@ IRECV(Irecv_c, MPI_Count)
         if (number != UNNUMBERED) \
             PUT("sendrecv", number, receiver(dest), out_tag, sender(source), tag_of_receive(in_tag), \
                 bytes(count, type)); \
+        sends(number, receiver(dest), out_tag); \
         MPI_Status *place = number == UNNUMBERED ? status : seen; \
         Half out = {(void *)data, count, type, dest, out_tag}; \
         Half taken = {in_data, received, received_type, source, in_tag}; \
         int result = sends_synchronously(comm) ? OUTSIDE(become(out, taken, comm, place)) \
                                                : CALL(Name, (UNPACK args comm, place)); \
-        report_message(number, source, result, seen); \
+        report_received(number, source, result, seen); \
         return over(result); \
     } \
     ALSO_PMPI(Name)
@@ -163,6 +174,7 @@ static bool is_known(MPI_Comm comm) {
         if (first) \
             PUT("isendrecv", first, second, number, receiver(dest), out_tag, sender(source), \
                 tag_of_receive(in_tag), bytes(count, type)); \
+        uint64_t sent = sends(number, receiver(dest), out_tag); \
         Half out = {(void *)data, count, type, dest, out_tag}; \
         Half taken = {in_data, received, received_type, source, in_tag}; \
         int result = sends_synchronously(comm) ? OUTSIDE(become(out, taken, comm, handle)) \
@@ -170,6 +182,8 @@ static bool is_known(MPI_Comm comm) {
         Request *known = is_recorded() && result == MPI_SUCCESS ? started(handle, first) : NULL; \
         if (known) { \
             known->second = second; \
+            known->sent = sent; \
+            known->receive = receive_of(number, source, in_tag); \
             known->wild = is_wild(source, in_tag) && is_known(comm); \
         } \
         return over(result); \

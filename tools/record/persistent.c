@@ -68,6 +68,8 @@ static void start_one(MPI_Request handle) {
     const Field *fields = template->fields;
     request->number = new_number();
     request->wild = template->wild;
+    request->receive = (Receive){strcmp(template->word, "irecv") == 0, fields[0], fields[1], fields[2]};
+    request->sent = request->receive.is_there ? 0 : sends(fields[0], fields[1], fields[2]);
     if (request->number)
         PUT(template->word, request->number, fields[0], fields[1], fields[2], fields[3]);
 }

@@ -6,11 +6,12 @@
 static struct {
     MPI_Message handle;
     int number;
+    uint64_t sum; /* what it adds to the sum of messages */
 } * messages;
 static int message_count, message_room;
 
 /* The number is 0 if the message isn't recorded. */
-static void keep_message(MPI_Message handle, int number) {
+static void keep_message(MPI_Message handle, int number, uint64_t sum) {
     if (message_count == message_room) {
         int room = message_room ? 2 * message_room : 64;
         void *more = realloc(messages, room * sizeof *messages);
@@ -22,15 +23,20 @@ static void keep_message(MPI_Message handle, int number) {
         message_room = room;
     }
     messages[message_count].handle = handle;
+    messages[message_count].sum = sum;
     messages[message_count++].number = number;
 }
 
+bool holds_messages(void) { return message_count > 0; }
+
 /* Removes a message and answers its number, or 0. All messages from MPI_PROC_NULL have one handle. */
-static int take_message(MPI_Message handle) {
+static int take_message(MPI_Message handle, uint64_t *sum) {
+    *sum = 0;
     for (int i = message_count - 1; i >= 0; i--) {
         if (messages[i].handle != handle)
             continue;
         int number = messages[i].number;
+        *sum = messages[i].sum;
         messages[i] = messages[--message_count];
         if (number)
             return number;
@@ -42,6 +48,16 @@ static int take_message(MPI_Message handle) {
 }
 
 /* ---- Probes ------------------------------------------------------------------------------------ */
+
+/* The source of the message that a probe found without waiting. MPI_PROC_NULL has none, whatever the status
+ * says. */
+static Field source_found(int source, const MPI_Status *status) {
+    return source == MPI_PROC_NULL ? NULL_PEER : status->MPI_SOURCE;
+}
+
+static Field tag_found(int source, const MPI_Status *status) {
+    return source == MPI_PROC_NULL ? 0 : status->MPI_TAG;
+}
 
 int MPI_Probe(int source, int tag, MPI_Comm comm, MPI_Status *status) {
     MPI_Status mine, *seen = status == MPI_STATUS_IGNORE ? &mine : status;
@@ -63,20 +79,11 @@ int MPI_Mprobe(int source, int tag, MPI_Comm comm, MPI_Message *message, MPI_Sta
     int result = CALL(Mprobe, (source, tag, comm, message, number == UNNUMBERED ? status : seen));
     report_message(number, source, result, seen);
     if (is_recorded() && result == MPI_SUCCESS)
-        keep_message(*message, taken);
+        keep_message(*message, taken,
+                     message_from(number, source_found(source, seen), tag_found(source, seen)));
     return over(result);
 }
 ALSO_PMPI(Mprobe)
-
-/* The source of the message that a probe found without waiting. MPI_PROC_NULL has none, whatever the status
- * says. */
-static Field source_found(int source, const MPI_Status *status) {
-    return source == MPI_PROC_NULL ? NULL_PEER : status->MPI_SOURCE;
-}
-
-static Field tag_found(int source, const MPI_Status *status) {
-    return source == MPI_PROC_NULL ? 0 : status->MPI_TAG;
-}
 
 int MPI_Iprobe(int source, int tag, MPI_Comm comm, int *found, MPI_Status *status) {
     MPI_Status mine, *seen = status == MPI_STATUS_IGNORE ? &mine : status;
@@ -104,7 +111,8 @@ int MPI_Improbe(int source, int tag, MPI_Comm comm, int *found, MPI_Message *mes
         int taken = number == UNNUMBERED ? 0 : new_number();
         if (taken)
             PUT("improbe", taken, number, source_found(source, seen), tag_found(source, seen));
-        keep_message(*message, taken);
+        keep_message(*message, taken,
+                     message_from(number, source_found(source, seen), tag_found(source, seen)));
     } else if (number != UNNUMBERED) {
         left_out(NOTHING, "MPI_Improbe, found nothing");
         journal_polled(IMPROBE, site());
@@ -117,21 +125,27 @@ ALSO_PMPI(Improbe)
 
 #define MRECV(Name, Count) \
     int MPI_##Name(void *data, Count count, MPI_Datatype type, MPI_Message *message, MPI_Status *status) { \
-        int taken = BEGINS ? take_message(*message) : 0; \
+        uint64_t sum = 0; \
+        int taken = BEGINS ? take_message(*message, &sum) : 0; \
         if (taken) \
             PUT("mrecv", taken); \
-        return over(CALL(Name, (data, count, type, message, status))); \
+        int result = CALL(Name, (data, count, type, message, status)); \
+        if (is_recorded() && result == MPI_SUCCESS) \
+            receives_message(sum); \
+        return over(result); \
     } \
     ALSO_PMPI(Name)
 
 #define IMRECV(Name, Count) \
     int MPI_##Name(void *data, Count count, MPI_Datatype type, MPI_Message *message, MPI_Request *handle) { \
-        int taken = BEGINS ? take_message(*message) : 0, request = taken ? new_number() : 0; \
+        uint64_t sum = 0; \
+        int taken = BEGINS ? take_message(*message, &sum) : 0, request = taken ? new_number() : 0; \
         if (request) \
             PUT("imrecv", request, taken); \
         int result = CALL(Name, (data, count, type, message, handle)); \
-        if (is_recorded() && result == MPI_SUCCESS) \
-            started(handle, request); \
+        Request *known = is_recorded() && result == MPI_SUCCESS ? started(handle, request) : NULL; \
+        if (known) \
+            known->message = sum; \
         return over(result); \
     } \
     ALSO_PMPI(Name)

@@ -47,6 +47,21 @@ Request *requests_add(uintptr_t handle) {
     return new;
 }
 
+static int by_number(const void *one, const void *other) {
+    return (*(const Request *const *)one)->number - (*(const Request *const *)other)->number;
+}
+
+const Request **requests_active(int *count) {
+    const Request **found = malloc((used + 1) * sizeof *found);
+    *count = 0;
+    for (size_t i = 0; found && i < room; i++)
+        if (places[i].handle != 0 && places[i].active && places[i].number)
+            found[(*count)++] = &places[i];
+    if (found)
+        qsort(found, *count, sizeof *found, by_number);
+    return found;
+}
+
 /* Closes the gap: a request after it moves into it if the gap lies between that request's home and its place.
  */
 void requests_remove(uintptr_t handle) {

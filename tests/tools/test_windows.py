@@ -1,0 +1,261 @@
+"""Windows of a run: which are judged and removed while it goes on, and what is said of them."""
+
+import contextlib
+import io
+import json
+import os
+import subprocess
+import unittest
+from pathlib import Path
+from unittest import mock
+
+from support import BOTH, SITES, TOP, Folders, Stored, journal
+from companions import run, windows
+from companions.journals import is_closed, windows_in
+from companions.runs import Judge, Run
+from companions.script import Stopped
+from companions.watching import Watched
+from companions.windows import Judging, Windows, stories_of
+
+CHECKER = {"MPIWAIT": str(TOP / "tests/tools/judge")}
+# Windows of two ranks, by their calls.
+FREE = ("barrier 0 @1 / send 0 1 0 @2 / cut", "barrier 0 @1 / recv 0 0 0 @3 / cut")
+HANG = tuple(calls.replace("finalize", "cut") for calls in BOTH)
+TESTS = tuple(
+    f"isend 1 0 {1 - rank} 0 4 @4 / test 1 @5 / recv 0 {1 - rank} 0 @6 / cut" for rank in (0, 1)
+)  # a hang by tests alone
+ROOTS = ("bcast 0 0 @4 / cut", "bcast 0 1 @4 / cut")
+UNCLEAN = ("send 0 1 0 @2 / cut", "cut")
+LAST = ("recv 0 1 0 @7 / finalize", "send 0 0 0 @8 / finalize")
+STUCK = ("recv 0 1 0 @7", "recv 0 0 0 @8")
+
+
+class Cut(Folders):
+    def put(self, *all_windows, state="o"):
+        """Windows from 1 on. None stands for one that was removed."""
+        top = self.folder / "journal"
+        top.mkdir(exist_ok=True)
+        for number, ranks in enumerate(all_windows, 1):
+            if ranks:
+                (top / str(number)).mkdir()
+                for rank, calls in enumerate(ranks):
+                    self.write(f"journal/{number}/journal{rank}", journal(rank, len(ranks), calls, state))
+        for rank in (0, 1):
+            self.write(f"journal/sites{rank}", SITES)
+            self.write(f"journal/left{rank}", "")
+        return top
+
+    def judged(self, *all_windows, keeps=False, judge=None):
+        found = Windows(self.put(*all_windows), judge or Stored(), keeps)
+        with contextlib.redirect_stderr(io.StringIO()) as said:
+            while found.catch_up():
+                pass
+        self.said = said.getvalue()
+        return found
+
+    def there(self):
+        return windows_in(self.folder / "journal")
+
+
+class Closed(Cut):
+    def test_which_are(self):
+        for ranks, wanted in ((FREE, True), (LAST, False), (("cut",), True), (("cut", "barrier 0"), False), (("cut", ""), False)):  # fmt: skip
+            with self.subTest(ranks):
+                self.again()
+                self.assertEqual(is_closed(self.put(ranks) / "1"), wanted)
+
+    def test_a_rank_without_a_journal(self):
+        top = self.put(FREE)
+        (top / "1/journal1").unlink()
+        self.assertFalse(is_closed(top / "1"))
+        self.assertFalse(is_closed(top / "2"))
+
+    def test_the_last_one_waits_for_nothing(self):
+        self.assertEqual(self.judged(FREE).judged, 0)
+        self.again()
+        self.assertEqual(self.judged(FREE, LAST).judged, 1)
+
+
+class Judged(Cut):
+    def test_free_ones_are_removed(self):
+        found = self.judged(FREE, FREE, LAST)
+        self.assertEqual((found.judged, found.calls, found.first, self.there(), self.said), (2, 8, None, [3], ""))
+
+    def test_free_ones_are_kept(self):
+        self.judged(FREE, LAST, keeps=True)
+        self.assertEqual(self.there(), [1, 2])
+
+    def test_the_first_that_is_not_free_stays(self):
+        found = self.judged(FREE, HANG, HANG, FREE, LAST)
+        self.assertEqual((found.judged, found.first, self.there()), (4, 2, [2, 5]))
+        self.assertIn("window 2 of journal: verdict hang: 2 of 2 ranks wait", self.said)
+        self.assertIn("rank 0 waits in MPI_Send at /a.py:7", self.said)
+        self.assertNotIn("window 3", self.said)
+
+    def test_different_roots_are_not_free(self):
+        self.assertEqual(self.judged(ROOTS, LAST).first, 1)
+
+    def test_one_that_is_not_clean(self):
+        found = self.judged(UNCLEAN, LAST)
+        self.assertEqual(found.first, 1)
+        self.assertIn("refused rank 0 line 2 J11 cut", self.said)
+
+    def test_tests_that_hold_nobody(self):
+        found = self.judged(TESTS, LAST)
+        self.assertEqual((found.first, found.by_tests, self.there()), (None, 1, [2]))
+        self.assertIn("1 window would hang only if nothing else is done until a test succeeds", list(found.lines()))
+
+    def test_what_cannot_be_judged(self):
+        found = self.judged(FREE, LAST, judge=Stored("--json"))
+        self.assertEqual((found.judged, found.unjudged), (0, 1))
+        self.assertIn("window 1 can't be judged: out of memory", self.said)
+
+    def test_more_than_eight_wait(self):
+        found = Windows(self.put(*[FREE] * 11, LAST), Stored())
+        found.drop()
+        self.assertEqual((found.unjudged, self.there()), (3, [*range(1, 9), 12]))
+        while found.catch_up():
+            pass
+        self.assertEqual((found.judged, self.there()), (8, [12]))
+
+    def test_all_wait_if_they_are_kept(self):
+        found = Windows(self.put(*[FREE] * 11, LAST), Stored(), keeps=True)
+        found.drop()
+        self.assertEqual((found.unjudged, self.there()), (0, [*range(1, 13)]))
+
+    def test_a_thread(self):
+        top = self.put(FREE, HANG, FREE, LAST)
+        with contextlib.redirect_stderr(io.StringIO()):
+            judging = Judging(top, Stored(), False, None)
+            judging.thread.start()
+            judging.look()
+            found = judging.end()[top]
+        self.assertEqual((found.judged, found.first, self.there()), (3, 2, [2, 4]))
+
+    def test_a_judge_that_fails_while_the_run_goes_on(self):
+        top = self.put(FREE, LAST)
+        judging = Judging(top, mock.Mock(ask=mock.Mock(side_effect=OSError(24, "Too many open files"))), False, None)
+        with contextlib.redirect_stderr(io.StringIO()) as said:
+            judging.thread.start()
+            judging.thread.join()
+        self.assertIn("no window is judged before the run ends: [Errno 24] Too many open files", said.getvalue())
+
+
+class Reports(Cut):
+    def stories(self, *all_windows, **more):
+        found = self.judged(*all_windows)
+        return stories_of(self.folder / "journal", Stored(), found, **more)
+
+    def test_a_free_run(self):
+        (last,) = self.stories(FREE, FREE, LAST)
+        self.assertEqual((last.status, last.title), (0, "verdict free: every rank comes to its MPI_Finalize"))
+        said = ["2 windows of 8 calls were judged before the last one: nobody waits there for ever"]
+        self.assertEqual(dict(last.sections)["Windows"], said)
+
+    def test_a_hang_in_the_last_window(self):
+        (last,) = self.stories(FREE, STUCK)
+        self.assertEqual(last.status, 1)
+        self.assertIn("rank 0 waits in MPI_Recv at /a.py:7", last.text)
+
+    def test_a_hang_in_an_earlier_one(self):
+        first, last = self.stories(FREE, HANG, LAST)
+        self.assertEqual([one.heading for one in (first, last)], ["Window 2, the first that isn't free", "Window 3, the last"])
+        self.assertEqual([first.status, last.status], [1, 0])
+        self.assertNotIn("Where the ranks were that didn't come to MPI_Finalize", dict(first.sections))
+
+    def test_windows_that_were_removed(self):
+        found = self.judged(FREE, LAST)
+        found.unjudged = 2
+        for ranks, status, title in (
+            (LAST, 6, "not judged: 2 windows were removed before that (without these: free: "),
+            (STUCK, 1, "verdict hang: 2 of 2 ranks wait"),
+        ):
+            with self.subTest(ranks):
+                for rank, calls in enumerate(ranks):
+                    self.write(f"journal/2/journal{rank}", journal(rank, 2, calls))
+                (last,) = stories_of(self.folder / "journal", Stored(), found)
+                self.assertEqual((last.status, last.title[: len(title)]), (status, title))
+
+    def test_a_rank_that_did_not_come_to_the_cut(self):
+        ranks = (FREE[0], FREE[1].replace(" / cut", ""))
+        (last,) = self.stories(ranks, ("", ""))
+        self.assertEqual((last.heading, last.status), ("Window 1, the last", 5))
+        said = dict(last.sections)["Where the ranks were that didn't come to MPI_Finalize"]
+        self.assertEqual(said[0], "rank 0: came to the end of this window, and went on")
+
+    def test_why_there_was_no_cut(self):
+        self.put(("full", "full"))
+        title = "Why the recording wasn't cut where it could have been"
+        (last,) = stories_of(self.folder / "journal", Stored(), None)
+        self.assertTrue(dict(last.sections)[title][0].startswith("no rank called a barrier, or an allreduce"))
+        self.write("journal/left0", "N 000000000012 moments without a cut: messages were under way\n")
+        (last,) = stories_of(self.folder / "journal", Stored(), None)
+        said = ["moments without a cut: messages were under way: 12 times"]
+        self.assertEqual(dict(last.sections)[title], said)
+
+    def test_names_and_counts_are_those_of_the_run(self):
+        top = self.put(FREE)
+        self.write("journal/names0", "2 rows\n")
+        self.write("journal/left0", "W 000000000001 MPI_Put\n")
+        found = Run(top / "1")
+        self.assertEqual((found.label(0, 2), found.count("W")), ("`rows'", 1))
+
+    def test_ranks_are_watched_in_the_last_window(self):
+        watched = Watched(self.put(FREE, STUCK))
+        watched.look(5.0)
+        self.assertEqual((watched.folder.name, watched.since), ("2", {0: 5.0, 1: 5.0}))
+
+
+class Commands(Cut):
+    def keep(self, *all_windows):
+        self.put(*all_windows)
+        (self.folder / "mpiwait-run").mkdir()
+        (self.folder / "journal").rename(self.folder / "mpiwait-run/journal")
+
+    def test_again(self):
+        self.keep(FREE, HANG, None, LAST)
+        done = self.command("run", "--again", "--json", "a.json", env=os.environ | CHECKER)
+        self.assertEqual(done.returncode, 1, done.stderr)
+        self.assertTrue(done.stdout.startswith("Window 2, the first that isn't free\n"), done.stdout)
+        found = json.loads(self.read("a-2.json"))["windows"]
+        self.assertEqual(found, {"judged": 2, "calls": 8, "unjudged": 0, "first": 2})
+        self.assertEqual(windows_in(self.folder / "mpiwait-run/journal"), [1, 2, 4])
+
+    def test_again_after_windows_were_removed(self):
+        self.keep(None, LAST)
+        self.write("mpiwait-run/journal/windows", '{"unjudged": 1}\n')
+        self.assertEqual(self.command("run", "--again", env=os.environ | CHECKER).returncode, 6)
+
+    def test_limits(self):
+        self.keep(FREE, HANG, LAST)
+        done = self.command("limits", "mpiwait-run", env=os.environ | CHECKER)
+        self.assertEqual((done.returncode, done.stdout.splitlines()[-1]), (0, "the least limit with the verdict free is 4"))
+
+    def test_words(self):
+        for words in (["--window", "-1", "x"], ["--window", "900000", "x"], ["--window", "9", "--unproved", "x"],
+                      ["--again", "--window", "9"]):  # fmt: skip
+            with self.subTest(words), mock.patch.dict(os.environ), contextlib.redirect_stderr(io.StringIO()):
+                os.environ.pop("MPIWAIT", None)
+                with self.assertRaises(Stopped):
+                    run.words_of(words)
+        self.assertEqual(run.words_of(["x"]).window, 0)
+
+    def test_a_checker_that_knows_none(self):
+        def answer(command, folder):
+            is_cut = "cut" in Path(folder, "journal0").read_text()
+            return subprocess.CompletedProcess(command, 2 if is_cut else 0, "" if is_cut else "{}", "")
+
+        with mock.patch.object(Judge, "run", lambda self, *words: answer(*words)):
+            Judge().try_out()
+            with self.assertRaises(Stopped) as stopped:
+                Judge().try_out(True)
+        self.assertEqual(stopped.exception.status, 3)
+
+
+class Constants(unittest.TestCase):
+    def test_how_many_wait(self):
+        self.assertEqual(windows.MOST_WAITING, 8)
+
+
+if __name__ == "__main__":
+    unittest.main()

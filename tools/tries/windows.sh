@@ -1,0 +1,85 @@
+# Tries of runs that are judged window by window. A part of tools/try, which reads it.
+# shellcheck shell=bash
+
+# Whether the checker knows journals that end with `cut'.
+knows_windows() {
+    rm -rf -- "$work/window"
+    mkdir -- "$work/window"
+    printf 'journal 2 0 1 a-run o a-library\ncut\n' >"$work/window/journal0"
+    "${MPIWAIT:-$here/../mpiwait}" judge "$work/window" >/dev/null 2>&1
+}
+
+# The report has a line, and so many windows were judged at least.
+expect_windows() {
+    local name=$1 wanted=$2 least=$3 line=$4 count
+    check_journals "$name"
+    count=$(sed -n 's/^  \([0-9,]*\) windows\? of .* judged before the last one.*/\1/p' "$work/said")
+    count=${count//,/}
+    if [[ $status == "$wanted" ]] && ((${count:-0} >= least)) &&
+        cat -- "$work/said" "$work/errors" | grep -q -- "$line"; then
+        echo "$name: status $status, ${count:-0} windows"
+    else
+        cat -- "$work/said" "$work/errors" >&2
+        fails "$name: status $status, ${count:-0} windows"
+    fi
+}
+
+# Free windows are gone at the end, but for the last one.
+expect_removed() {
+    local left
+    left=$(find "$work/run/journal" -mindepth 1 -maxdepth 1 -type d -name '[0-9]*' | wc -l)
+    [[ $left == "$2" ]] || fails "$1: $left windows are left"
+}
+
+# Where no window ends, the report says why.
+try_no_cut() {
+    local library=$1 way why
+    while read -r way why; do
+        run_with --window 500 "${command[@]}" 200 "$way" 0
+        expect_windows "$library: windows.c $way" 0 0 "$why"
+    done <<'END_OF_WAYS'
+under moments without a cut: messages were under way
+file moments without a cut: calls failed, aren't recorded
+threads no windows, with MPI_THREAD_MULTIPLE
+END_OF_WAYS
+}
+
+# Random programs have the verdict that they have without windows.
+try_random_windows() {
+    local library=$1 seed
+    prepare "$library" random/ 3
+    for ((seed = 1; seed <= seeds; seed++)); do
+        run_with --window 100 --for 120 "${command[@]}" "$seed" 150 pauses
+        expect_windows "$library: random program $seed with pauses" 0 2 'verdict free'
+    done
+}
+
+# A rank without a recorder meets nobody's exchange.
+try_unrecorded_window() {
+    local library=$1
+    prepare "$library" windows.c 1
+    run_with --window 500 --for 60 "${command[@]}" 200 : -n 1 env -u LD_PRELOAD "$work/program" 200
+    expect_windows "$library: windows.c, a rank that isn't recorded" "$status" 0 'no windows'
+    ! grep -q 'was ended' "$work/errors" || fails "$library: windows.c, a rank that isn't recorded: it hung"
+}
+
+try_windows() {
+    local library=$1
+    knows_windows || { echo "$library: windows: passed over: the checker knows none"; return; }
+    prepare "$library" windows.c 3
+    run_with --window 600 "${command[@]}" 400
+    expect_windows "$library: windows.c" 0 3 'verdict free'
+    expect_removed "$library: windows.c" 1
+    run_with --window 600 --keep "${command[@]}" 400
+    expect_windows "$library: windows.c, --keep" 0 3 'verdict free'
+    run_with --again
+    expect_windows "$library: windows.c, --again" 0 3 'verdict free'
+    run_with --window 600 "${command[@]}" 400 head 150
+    expect_windows "$library: windows.c head" 1 2 '^tools/run: window [0-9]* of journal: verdict hang'
+    expect_removed "$library: windows.c head" 2
+    run_with --window 600 --quiet 3 --stop --for 100 "${command[@]}" 400 hang 300
+    expect_windows "$library: windows.c hang" 1 2 'wait for ever.*; the run is ended'
+    try_no_cut "$library"
+    try_unrecorded_window "$library"
+    try_random_windows "$library"
+}
