@@ -140,6 +140,25 @@ class Cuts(Folders):
                 self.assertEqual(self.traces(windows.first), first)
                 self.assertEqual(self.traces(windows.second), second)
 
+    def test_a_receive_that_goes_on_and_is_never_met(self):
+        """It is a sink of the whole and of the second window."""
+        run, places = self.whole(["irecv 1 0 any any / barrier 0 / | / wait 1", "barrier 0 / | / barrier 0"])
+        windows = CUTS.Windows(run, places, random.Random(1))
+        self.assertEqual(self.traces(windows.first), ["irecv 0 0 null 0 / barrier 0 / finalize", "barrier 0 / finalize"])
+        self.assertEqual(self.traces(windows.second, "judge"), ["irecv 0 0 null 0 / open", "barrier 0 / open"])
+        for calls in ("strict", "went"):
+            wrong, what = CUTS.difference(CUTS.Asked(TOP / "bench/journals.py"), windows, ["--calls", calls])
+            self.assertEqual((wrong, what), ("", "free, then hang"))
+
+    def test_windows_that_say_something_else_are_found(self):
+        run, places = self.whole(["send 0 1 0 / | / recv 0 1 1 / finalize", "recv 0 0 0 / | / finalize"])
+        windows = CUTS.Windows(run, places, random.Random(1))
+        path, asked = windows.second / "journal0", CUTS.Asked(TOP / "bench/journals.py")
+        self.assertEqual(CUTS.difference(asked, windows, ["--calls", "strict"]), ("", "free, then hang"))
+        path.write_text(path.read_text().replace("recv 0 1 1\n", ""))
+        wrong, _ = CUTS.difference(asked, windows, ["--calls", "strict"])
+        self.assertIn("whole ('hang', {0: 3}, [0], {0: [(1, None)]}, [{'missing': [0, 1]}])", wrong)
+
     def test_what_is_refused(self):
         for ranks, why in REFUSED.items():
             with self.subTest(ranks):

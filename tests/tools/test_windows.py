@@ -46,7 +46,11 @@ class Cut(Folders):
         return top
 
     def judged(self, *all_windows, keeps=False, judge=None):
-        found = Windows(self.put(*all_windows), judge or Stored(), keeps)
+        return self.windows_of(self.put(*all_windows), keeps, judge)
+
+    def windows_of(self, top, keeps=False, judge=None):
+        """Those in a folder, judged."""
+        found = Windows(top, judge or Stored(), keeps)
         with contextlib.redirect_stderr(io.StringIO()) as said:
             while found.catch_up():
                 pass
@@ -71,15 +75,16 @@ class Closed(Cut):
         self.assertFalse(is_closed(top / "2"))
 
     def test_the_last_one_waits_for_nothing(self):
-        self.assertEqual(self.judged(FREE).judged, 0)
+        self.assertEqual(self.judged(FREE).count("judged"), 0)
         self.again()
-        self.assertEqual(self.judged(FREE, LAST).judged, 1)
+        self.assertEqual(self.judged(FREE, LAST).count("judged"), 1)
 
 
 class Judged(Cut):
     def test_free_ones_are_removed(self):
         found = self.judged(FREE, FREE, LAST)
-        self.assertEqual((found.judged, found.calls, found.first, self.there(), self.said), (2, 8, None, [3], ""))
+        wanted = {"judged": 2, "calls": 8, "unjudged": 0, "first": None}
+        self.assertEqual((found.counts(), self.there(), self.said), (wanted, [3], ""))
 
     def test_free_ones_are_kept(self):
         self.judged(FREE, LAST, keeps=True)
@@ -87,7 +92,7 @@ class Judged(Cut):
 
     def test_the_first_that_is_not_free_stays(self):
         found = self.judged(FREE, HANG, HANG, FREE, LAST)
-        self.assertEqual((found.judged, found.first, self.there()), (4, 2, [2, 5]))
+        self.assertEqual((found.count("judged"), found.first, self.there()), (4, 2, [2, 5]))
         self.assertIn("window 2 of journal: verdict hang: 2 of 2 ranks wait", self.said)
         self.assertIn("rank 0 waits in MPI_Send at /a.py:7", self.said)
         self.assertNotIn("window 3", self.said)
@@ -102,26 +107,27 @@ class Judged(Cut):
 
     def test_tests_that_hold_nobody(self):
         found = self.judged(TESTS, LAST)
-        self.assertEqual((found.first, found.by_tests, self.there()), (None, 1, [2]))
+        self.assertEqual((found.first, found.count("by_tests"), self.there()), (None, 1, [2]))
         self.assertIn("1 window would hang only if nothing else is done until a test succeeds", list(found.lines()))
 
     def test_what_cannot_be_judged(self):
         found = self.judged(FREE, LAST, judge=Stored("--json"))
-        self.assertEqual((found.judged, found.unjudged), (0, 1))
+        self.assertEqual((found.count("judged"), found.unjudged()), (0, 1))
         self.assertIn("window 1 can't be judged: out of memory", self.said)
+        self.assertEqual(list(found.lines()), ["1 window couldn't be judged"])
 
     def test_more_than_eight_wait(self):
         found = Windows(self.put(*[FREE] * 11, LAST), Stored())
         found.drop()
-        self.assertEqual((found.unjudged, self.there()), (3, [*range(1, 9), 12]))
+        self.assertEqual((found.unjudged(), self.there()), (3, [*range(1, 9), 12]))
         while found.catch_up():
             pass
-        self.assertEqual((found.judged, self.there()), (8, [12]))
+        self.assertEqual((found.count("judged"), self.there()), (8, [12]))
 
     def test_all_wait_if_they_are_kept(self):
         found = Windows(self.put(*[FREE] * 11, LAST), Stored(), keeps=True)
         found.drop()
-        self.assertEqual((found.unjudged, self.there()), (0, [*range(1, 13)]))
+        self.assertEqual((found.unjudged(), self.there()), (0, [*range(1, 13)]))
 
     def test_a_thread(self):
         top = self.put(FREE, HANG, FREE, LAST)
@@ -130,7 +136,7 @@ class Judged(Cut):
             judging.thread.start()
             judging.look()
             found = judging.end()[top]
-        self.assertEqual((found.judged, found.first, self.there()), (3, 2, [2, 4]))
+        self.assertEqual((found.count("judged"), found.first, self.there()), (3, 2, [2, 4]))
 
     def test_a_judge_that_fails_while_the_run_goes_on(self):
         top = self.put(FREE, LAST)
@@ -165,9 +171,9 @@ class Reports(Cut):
 
     def test_windows_that_were_removed(self):
         found = self.judged(FREE, LAST)
-        found.unjudged = 2
+        found.gone["removed"] = 2
         for ranks, status, title in (
-            (LAST, 6, "not judged: 2 windows were removed before that (without these: free: "),
+            (LAST, 6, "not judged: 2 earlier windows weren't (without these: free: "),
             (STUCK, 1, "verdict hang: 2 of 2 ranks wait"),
         ):
             with self.subTest(ranks):
@@ -223,8 +229,16 @@ class Commands(Cut):
 
     def test_again_after_windows_were_removed(self):
         self.keep(None, LAST)
-        self.write("mpiwait-run/journal/windows", '{"unjudged": 1}\n')
+        self.write("mpiwait-run/journal/windows", '{"removed": 1}\n')
         self.assertEqual(self.command("run", "--again", env=os.environ | CHECKER).returncode, 6)
+
+    def test_again_counts_those_that_are_gone(self):
+        top = self.put(FREE, FREE, HANG, LAST)
+        found = self.windows_of(top)
+        found.note()
+        wanted = {"judged": 3, "calls": 12, "unjudged": 0, "first": 3}
+        self.assertEqual((found.counts(), self.there()), (wanted, [3, 4]))
+        self.assertEqual(self.windows_of(top, keeps=True).counts(), wanted)
 
     def test_limits(self):
         self.keep(FREE, HANG, LAST)

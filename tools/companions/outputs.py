@@ -41,8 +41,7 @@ def as_json(story):
             "messages": one.messages() if one.is_pending else [], "senders": one.senders,
             "started": [call_json(start) for start in one.starts]} for one in story.stuck],
         "causes": shown.report["causes"] if shown else [],
-        "windows": story.windows and {"judged": story.windows.judged, "calls": story.windows.calls,
-                                      "unjudged": story.windows.unjudged, "first": story.windows.first},
+        "windows": story.windows and story.windows.counts(),
         "polls": [{"rank": rank, "mpi": name, "where": run.places.where(rank, site), "count": count}
                   for rank, name, site, count in polls],
         "left": (story.strict or shown).report["left"] if shown else [],

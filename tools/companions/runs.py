@@ -263,7 +263,7 @@ class Judgement:
 
     def misses_windows(self):
         """Whether a window wasn't judged that might hang, as far as is known."""
-        return bool(self.windows and self.windows.unjudged and self.verdict != "hang")
+        return bool(self.windows and self.windows.unjudged() and self.verdict != "hang")
 
     def _status(self, program_status):
         """The status of the run, of all that was found of it."""

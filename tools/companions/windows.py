@@ -8,6 +8,7 @@ alone.
 import json
 import shutil
 import threading
+from collections import Counter
 from contextlib import suppress
 
 from .journals import is_closed, journals_in, windows_in
@@ -17,17 +18,23 @@ from .script import Status, plural, say, why_of
 from .story import Story
 
 MOST_WAITING, PAUSE = 8, 0.1  # closed windows; seconds
-REMOVED = "removed without a judgement, since more than 8 waited"
+REMOVED = f"removed without a judgement, since more than {MOST_WAITING} waited"
+FREE = "nobody waits there for ever"
+BY_TESTS = "would hang only if nothing else is done until a test succeeds"
 
 
 class Windows:
     """The windows of one run, and what was found of those that are closed."""
     def __init__(self, folder, judge, keeps=False, eager=None):
         self.folder, self.judge, self.keeps, self.eager = folder, judge, keeps, eager
-        self.judged, self.calls, self.by_tests, self.unjudged, self.odd = 0, 0, 0, 0, []
-        self.first, self.lock, self.closed, self.done = None, threading.Lock(), set(), set()
+        self.first, self.lock, self.closed, self.done, self.odd = None, threading.Lock(), set(), set(), []
+        self.found = Counter()  # how many were judged, their calls, which are by tests alone, ..
+        self.gone = Counter()  # of those that aren't there any more
         with suppress(OSError, ValueError):
-            self.unjudged = json.loads((folder / "windows").read_text(encoding="ascii"))["unjudged"]
+            self.gone += Counter(json.loads((folder / "windows").read_text(encoding="ascii")))
+
+    def count(self, what):
+        return self.found[what] + self.gone[what]
 
     def waiting(self):
         """Those that are closed and wait to be judged."""
@@ -47,11 +54,13 @@ class Windows:
         with self.lock:
             for number in [] if self.keeps else self.waiting()[MOST_WAITING:]:
                 self.done.add(number)
-                self.unjudged += 1
-                self.remove(number)
+                self.remove(number, Counter(removed=1))
 
-    def remove(self, number):
-        if not self.keeps and number != self.first:
+    def remove(self, number, found):
+        """Counts what was found of a window, and removes it, if it needn't be kept."""
+        is_gone = not self.keeps and number != self.first
+        (self.gone if is_gone else self.found).update(found)
+        if is_gone:
             shutil.rmtree(self.folder / str(number), ignore_errors=True)
 
     def catch_up(self):
@@ -59,40 +68,39 @@ class Windows:
         number = self.take()
         if number is None:
             return False
-        self.calls += sum(one.count() for one in journals_in(self.folder / str(number)))
-        (self.judge_strictly if self.first is None else self.judge_as_it_went)(number)
-        self.remove(number)
+        found = Counter(calls=sum(one.count() for one in journals_in(self.folder / str(number))))
+        found[(self.judge_strictly if self.first is None else self.judge_as_it_went)(number)] += 1
+        found["judged"] = 1 - found["failed"]
+        self.remove(number, found)
         return True
 
     def judge_strictly(self, number):
+        """Answers what it is: free, by_tests (a hang by these alone), first or failed."""
         window = self.folder / str(number)
         answer = self.judge.ask(window, eager=self.eager)
         if answer.status == Status.IMPOSSIBLE:
-            self.cannot(number, answer.said)
-            return
-        self.judged += 1
+            return self.cannot(number, answer.said)
         if answer.status == Status.FREE and not answer.report["findings"]:
-            return
+            return "free"
         story = Story(window, self.judge, eager=self.eager)
         if story.status in (Status.FREE, Status.NOT_JUDGED):
-            self.by_tests += story.by_tests
-            return
+            return "by_tests" if story.by_tests else "free"
         self.first = number
         _, lines = next(iter(story.sections), ("", []))
         say("\n  ".join([f"window {number} of {self.folder.name}: {story.title}", *lines[:12]]))
+        return "first"
 
     def judge_as_it_went(self, number):
         answer = self.judge.ask(self.folder / str(number), calls="went")
         if answer.status == Status.IMPOSSIBLE:
-            self.cannot(number, answer.said)
-            return
-        self.judged += 1
+            return self.cannot(number, answer.said)
         if answer.status != Status.FREE:
             self.odd.append(f"window {number}: {answer.said or 'not free as it went'}")
+        return "later"
 
     def cannot(self, number, said):
-        self.unjudged += 1
         say(f"window {number} can't be judged: {said}")
+        return "failed"
 
     # ---- What is said ----
 
@@ -101,17 +109,24 @@ class Windows:
         numbers = windows_in(self.folder)
         return next((one for one in numbers if not is_closed(self.folder / str(one))), numbers[-1])
 
+    def unjudged(self):
+        return self.count("removed") + self.count("failed")
+
+    def counts(self):
+        counts = {what: self.count(what) for what in ("judged", "calls")}
+        return counts | {"unjudged": self.unjudged(), "first": self.first}
+
     def lines(self):
-        verb = "was" if self.judged == 1 else "were"
-        counts = f"{plural(self.judged, 'window')} of {plural(self.calls, 'call')}"
-        first = f"window {self.first} was the first that isn't free"
-        free = first if self.first else "nobody waits there for ever"
-        yield from [f"{counts} {verb} judged before the last one: {free}"] if self.judged else []
-        if self.by_tests:
-            tested = "would hang only if nothing else is done until a test succeeds"
-            yield f"{plural(self.by_tests, 'window')} {tested}"
-        if self.unjudged:
-            yield f"{plural(self.unjudged, 'window was', 'windows were')} {REMOVED}"
+        judged, by_tests, removed, failed = map(self.count, ("judged", "by_tests", "removed", "failed"))
+        counts = f"{plural(judged, 'window')} of {plural(self.count('calls'), 'call')}"
+        counts += f" {'was' if judged == 1 else 'were'} judged before the last one"
+        free = f"window {self.first} was the first that isn't free" if self.first else FREE
+        tested = f"{plural(by_tests, 'window')} {BY_TESTS}"
+        lost = f"{plural(removed, 'window was', 'windows were')} {REMOVED}"
+        yield from [f"{counts}: {free}"] if judged else []
+        yield from [tested] if by_tests else []
+        yield from [lost] if removed else []
+        yield from [f"{plural(failed, 'window')} couldn't be judged"] if failed else []
         yield from self.odd
 
     def stories(self, judge, **more):
@@ -124,7 +139,7 @@ class Windows:
         yield Story(self.folder / str(last), judge, **more, heading=heading, windows=self)
 
     def note(self):
-        (self.folder / "windows").write_text(json.dumps({"unjudged": self.unjudged}) + "\n", encoding="ascii")
+        (self.folder / "windows").write_text(json.dumps(self.gone) + "\n", encoding="ascii")
 
 
 class Judging:
