@@ -121,7 +121,7 @@ class Request:
     """A request or a message, from the call line that numbers it on."""
 
     def __init__(self, word, fields, is_message, wildcards, is_receive):
-        self.is_message, self.is_receive, self.is_moved = is_message, is_receive, False
+        self.is_message, self.is_receive, self.moved_at = is_message, is_receive, None
         self.parent = fields[1] if word == "comm_idup" else None  # of the communicator that it brings
         self.has_wildcard = "any" in wildcards and wildcards[0] != "null"
         self.is_cancelled = self.is_completed = self.has_outcome = self.is_brought = False
@@ -139,9 +139,12 @@ class Checker:
         self.requests = {}  # messages too
         self.word, self.fields, self.reports = "", [], set()  # of the last call line
         self.completes = []  # what it completes, if it doesn't fail
+        self.number = 1
 
     def take(self, line):
-        """Raises the code of the line's fault."""
+        """Raises the code of the line's fault; or the fault of an earlier line that says of a request that it goes on
+        which now is known to be complete."""
+        self.number += 1
         word, fields = fields_of(line, self.ranks)
         need(self.word not in ENDS, "J5")
         if word.startswith("="):
@@ -152,8 +155,8 @@ class Checker:
     # ---- Calls -----------------------------------------------------------------------------------
 
     def _call(self, word, fields, letters):
-        for request in self.completes:
-            self.requests[request].is_completed |= "=failed" not in self.reports
+        if "=failed" not in self.reports:
+            self._complete([self.requests[request] for request in self.completes])
         self.word, self.fields, self.reports, self.completes = word, fields, set(), []
         named = [(letter, field) for letter, field in zip(letters, fields) if letter in "qmrnR"]
         need(all(self._is_right(*pair) for pair in named), "J8")
@@ -174,7 +177,13 @@ class Checker:
             self.completes = fields
         elif word == "imrecv":
             self.completes = fields[1:]
-        need(not any(self.requests[request].is_moved for request in self.completes), "J8")
+
+    def _complete(self, requests):
+        for request in requests:
+            request.is_completed = True
+        moved = [request.moved_at for request in requests if request.moved_at]
+        if moved:
+            raise Fault(min(moved), "J7")
 
     def _is_right(self, letter, field):
         known = self.requests.get(field)
@@ -201,7 +210,7 @@ class Checker:
             self._new_communicator(word, fields, known)
         for _, request in known:
             request.has_outcome |= word in OUTCOMES
-            request.is_moved |= word == "=moved"
+            request.moved_at = self.number if word == "=moved" else request.moved_at
             request.is_brought |= word == "=idup"
         if word in FOLLOW and word != "=idup":
             self.reports.add(word)
@@ -222,12 +231,11 @@ class Checker:
         """Whether the line can say this of a request; of a call that failed nothing was completed."""
         is_back = field in self.completes and "=failed" not in self.reports
         if word == "=chose":
-            return field in self.fields and not request.is_moved
+            return field in self.fields
         if word == "=idup":
             return request.parent is not None and is_back and not request.is_brought
         if word == "=moved":
-            is_active = not request.is_completed and not is_back
-            return request.is_receive and is_active and not request.has_outcome
+            return request.is_receive and not request.is_completed and not request.has_outcome
         return (request.has_wildcard if word == "=done" else request.is_cancelled) and not request.has_outcome
 
     def _new_communicator(self, word, fields, known):

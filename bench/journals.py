@@ -23,6 +23,7 @@ import subprocess
 import sys
 import tempfile
 from dataclasses import dataclass, field
+from functools import cache
 from pathlib import Path
 
 HERE = Path(__file__).resolve().parent
@@ -518,12 +519,14 @@ ENTRIES = {
 
 
 class Recording:
-    def __init__(self, words):
-        self.journals = journals_in(words.folder)
-        self.communicators = Communicators(self.journals)
-        if self.communicators.are_cut:
+    def __init__(self, words, known=None):
+        """`known' is another one of the same journals, if there is one."""
+        self.journals = known.journals if known else journals_in(words.folder)
+        self.communicators = known.communicators if known else Communicators(self.journals)
+        if self.communicators.are_cut and not known:
             self.look_for_unclean()
         self.lists = [List(one, self.communicators, words) for one in self.journals]
+        self._waits = {}  # by the limit
 
     def look_for_unclean(self):
         groups = [self.communicators.group(key) for key in self.communicators.numbered]
@@ -554,13 +557,15 @@ class Recording:
         return status, report | {"findings": kept, "left": self.left()}
 
     def waits(self, eager):
-        return Waits(
-            [self.communicators.group(key) for key in self.communicators.numbered],
-            [one.lines for one in self.lists],
-            [one.pending for one in self.lists],
-            [one.messages_of_sinks() for one in self.lists],
-            None if eager is None else int(eager),
-        )
+        if eager not in self._waits:
+            self._waits[eager] = Waits(
+                [self.communicators.group(key) for key in self.communicators.numbered],
+                [one.lines for one in self.lists],
+                [one.pending for one in self.lists],
+                [one.messages_of_sinks() for one in self.lists],
+                None if eager is None else int(eager),
+            )
+        return self._waits[eager]
 
     def judged(self, words):
         report = self.waits(words.eager).report()
@@ -702,7 +707,8 @@ class Words(argparse.ArgumentParser):
         sys.exit(3)
 
 
-def words_of(argv):
+@cache
+def parser_of_words():
     parser = Words(description="What a run's journals stand for, by definition.")
     commands = parser.add_subparsers(dest="command", required=True)
     for command in (judge, close):
@@ -717,7 +723,11 @@ def words_of(argv):
         sub.add_argument("folder", metavar="FOLDER")
         if command is close:
             sub.add_argument("out", metavar="OUT")
-    return parser.parse_args(argv)
+    return parser
+
+
+def words_of(argv):
+    return parser_of_words().parse_args(argv)
 
 
 def main():

@@ -100,8 +100,8 @@ REFUSED = {
     ("irecv 1 0 any 0 / =done 1 1 0 / =moved 1", ""): "rank 0 line 4 J7 told line out of place",
     ("irecv 1 0 any 0 / =moved 1 / =done 1 1 0", ""): "rank 0 line 4 J7 told line out of place",
     ("irecv 1 0 any 0 / =moved 1 / =moved 1", ""): "rank 0 line 4 J7 told line out of place",
-    ("irecv 1 0 1 0 / =moved 1 / waitsome 1 / =chose 1", ""): "rank 0 line 4 J8 request",
-    ("irecv 1 0 1 0 / =moved 1 / wait 1", ""): "rank 0 line 4 J8 request",
+    ("irecv 1 0 1 0 / =moved 1 / waitsome 1 / =chose 1", ""): "rank 0 line 3 J7 told line out of place",
+    ("irecv 1 0 1 0 / =moved 1 / wait 1", ""): "rank 0 line 3 J7 told line out of place",
     ("=moved 1", ""): "rank 0 line 2 J8 request",
 }
 ENDS = ("finalize", "barrier 0 0", "cut / barrier 0", "cut / =failed", "cut 0")  # these have an end of their own
@@ -153,10 +153,10 @@ class Cuts(Folders):
     def test_windows_that_say_something_else_are_found(self):
         run, places = self.whole(["send 0 1 0 / | / recv 0 1 1 / finalize", "recv 0 0 0 / | / finalize"])
         windows = CUTS.Windows(run, places, random.Random(1))
-        path, asked = windows.second / "journal0", CUTS.Asked(TOP / "bench/journals.py")
-        self.assertEqual(CUTS.difference(asked, windows, ["--calls", "strict"]), ("", "free, then hang"))
+        path, judge, words = windows.second / "journal0", TOP / "bench/journals.py", ["--calls", "strict"]
+        self.assertEqual(CUTS.difference(CUTS.Asked(judge), windows, words), ("", "free, then hang"))
         path.write_text(path.read_text().replace("recv 0 1 1\n", ""))
-        wrong, _ = CUTS.difference(asked, windows, ["--calls", "strict"])
+        wrong, _ = CUTS.difference(CUTS.Asked(judge), windows, words)
         self.assertIn("whole ('hang', {0: 3}, [0], {0: [(1, None)]}, [{'missing': [0, 1]}])", wrong)
 
     def test_what_is_refused(self):
@@ -171,6 +171,18 @@ class Cuts(Folders):
         self.assertEqual(self.closed("barrier 0 / cut", "barrier 0 / finalize"), ["barrier 0 / open", "barrier 0 / finalize"])
         recording = JOURNALS.Recording(JOURNALS.words_of(["judge", str(self.folder / "J")]))
         self.assertEqual(recording.left(), [[0, 3, "cut"]])
+
+    def test_a_wait_that_failed_completes_no_receive_that_goes_on(self):
+        self.assertEqual(self.closed("irecv 1 0 1 0 / wait 1 / =moved 1 / =failed / cut", "cut"),
+                         ["irecv 0 0 null 0 / open", "finalize"])  # fmt: skip
+
+    def test_drawn_runs_have_no_fault(self):
+        """In some a report of an earlier request comes after a call that is moved."""
+        for seed in (1000583, *range(15)):
+            with self.subTest(seed):
+                self.again()
+                CUTS.put_run(self.folder / "J", seed)
+                JOURNALS.Recording(JOURNALS.words_of(["judge", str(self.folder / "J")]))
 
     def test_a_request_of_a_window_is_no_finding(self):
         self.closed("ibarrier 1 0 / cut", "ibarrier 1 0 / cut")

@@ -46,12 +46,18 @@ END_OF_WAYS
 
 # Random programs have the verdict that they have without windows.
 try_random_windows() {
-    local library=$1 seed
+    local library=$1 seed found=0 unknown=0 right=0 hung
     prepare "$library" random/ 3
     for ((seed = 1; seed <= seeds; seed++)); do
         run_with --window 100 --for 120 "${command[@]}" "$seed" 150 pauses
         expect_windows "$library: random program $seed with pauses" 0 2 'verdict free'
+        run_with --window 100 --for 120 "${command[@]}" "$seed"
+        expect_windows "$library: random program $seed" 0 0 'verdict free'
+        try_fault "$library: random program $seed with a fault, in windows" --window 100 "${command[@]}" \
+            "$seed" 120 fault
     done
+    echo "$library: $seeds programs with a fault, in windows: $found hung and were found, $unknown hung and are" \
+        "unfinished, $right ended"
 }
 
 # A rank without a recorder meets nobody's exchange.
@@ -61,6 +67,47 @@ try_unrecorded_window() {
     run_with --window 500 --for 60 "${command[@]}" 200 : -n 1 env -u LD_PRELOAD "$work/program" 200
     expect_windows "$library: windows.c, a rank that isn't recorded" "$status" 0 'no windows'
     ! grep -q 'was ended' "$work/errors" || fails "$library: windows.c, a rank that isn't recorded: it hung"
+}
+
+# The most megabytes of the recording while it is made go into `disk'.
+watch_disk() {
+    local most=0 now
+    while [[ -e $work/watched ]]; do
+        now=$(du -sm -- "$work/run" 2>/dev/null | cut -f 1)
+        ((${now:-0} <= most)) || most=$now
+        echo "$most" >"$work/disk"
+        sleep 0.2
+    done
+}
+
+# Runs and judges, with what that uses in `used' and `disk'.
+watch_windows() {
+    : >"$work/watched"
+    watch_disk &
+    measure_use "$here/run" --folder "$work/run" --window 200000 --json "$work/json" --stop \
+        "${command[@]}" "$@" 2>"$work/errors"
+    rm -- "$work/watched"
+    wait $!
+}
+
+# A run of 20,000,000 calls of each rank is judged to its end, or where it hangs after three quarters of that.
+try_windows_large() {
+    local library=$1 way name seconds processor megabytes disk found
+    knows_windows || { echo "$library: windows-large: passed over: the checker knows none"; return; }
+    prepare "$library" windows.c 4
+    for way in free hang; do
+        name="$library: windows.c, 20,000,000 calls, $way"
+        watch_windows 3921569 "$way" 2941176 "${WORK:-20}"
+        read -r seconds processor megabytes <"$work/used"
+        disk=$(<"$work/disk")
+        found=$(python3 -c 'import json, sys; found = json.load(open(sys.argv[1])); print(found["verdict"],
+            found["status"], *(found["windows"][name] for name in ("judged", "unjudged", "calls")))' "$work/json")
+        echo "$name: $found; $seconds s, $processor s of the processor, $megabytes MB, $disk MB of disk"
+        ((megabytes <= 1000 && disk <= 200)) || fails "$name: more than 1 GB or 200 MB of disk"
+        [[ $found == "$way "* && $found == *" 0 "* ]] || fails "$name: another verdict, or not all are judged"
+    done
+    seconds=$(($(date +%s) - $(sed -n 's/^hang at //p' "$work/errors")))
+    ((seconds <= 15)) || fails "$name: reported and ended $seconds seconds later"
 }
 
 try_windows() {
@@ -77,7 +124,7 @@ try_windows() {
     run_with --window 600 "${command[@]}" 400 head 150
     expect_windows "$library: windows.c head" 1 2 '^tools/run: window [0-9]* of journal: verdict hang'
     expect_removed "$library: windows.c head" 2
-    run_with --window 600 --quiet 3 --stop --for 100 "${command[@]}" 400 hang 300
+    run_with --window 600 --quiet 3 --stop --for 300 "${command[@]}" 400 hang 300
     expect_windows "$library: windows.c hang" 1 2 'wait for ever.*; the run is ended'
     try_no_cut "$library"
     try_unrecorded_window "$library"
