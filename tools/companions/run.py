@@ -22,7 +22,8 @@ TEXT = """Records a run of an MPI program, judges it, and reports which calls wa
 
 The status is 0 free, 1 hang, 2 refused, 3 words or installation, 4 nothing could be judged, 5 unfinished,
 6 not judged, 7 calls or roots of one collective differ, 8 the program failed. MPIWAIT names a checker."""
-MOST_LINES = 800_000  # of a window; a journal has 1,000,000 calls at most
+# The lines of a window, by default (0: there are none) and at most; a journal has 1,000,000 calls.
+LINES, MOST_LINES = 0, 800_000
 LIMITS = """Finds the least N of --eager N at which a recorded run can't hang. FOLDER is that of tools/run.
 
 It judges by 0 and by sizes of standard sends, since between two of these no verdict changes: by halves, or
@@ -42,7 +43,7 @@ def words_of(argv):
     add("--mpi", choices=("mpich", "openmpi"), help="the MPI library, if the command doesn't show it")
     add("--strict", action="store_true", help="pass standard sends on as synchronous ones")
     add("--eager", metavar="N", type=int, help="sends of at most N bytes are buffered")
-    add("--window", metavar="N", type=int, default=0, help="judge parts of N lines meanwhile (0: none)")
+    add("--window", metavar="N", type=int, help=f"judge parts of N lines meanwhile (default: {LINES})")
     add("--keep", action="store_true", help="keep parts that are free too")
     for name, (*_, text) in OUTPUTS.items():
         add(f"--{name}", metavar="FILE", type=Path, help=f"write {text} to FILE")
@@ -55,10 +56,12 @@ def words_of(argv):
         parser.error("--for and --quiet take a number of seconds above 0")
     if not 0 <= (words.eager or 0) <= MOST_BYTES:
         parser.error(f"--eager takes a number of bytes up to {MOST_BYTES}")
-    if not 0 <= words.window <= MOST_LINES:
+    if not 0 <= (words.window or 0) <= MOST_LINES:
         parser.error(f"--window takes a number of lines up to {MOST_LINES}")
     if words.window and words.unproved:
         parser.error("--window doesn't go with --unproved")
+    if words.window is None:
+        words.window = 0 if words.unproved or words.again else LINES
     if not words.again and not words.command:
         parser.error("which run? As in: tools/run mpirun -n 4 ./program; --help says more")
     given = [words.command, words.limit, words.frames is not None, words.mpi, words.strict, words.stop]

@@ -201,7 +201,7 @@ class Judge:
                 Path(folder, "journal0").write_text(f"journal 2 0 1 a-run o a-library\n{end}\n")
                 answer = self.ask(folder)
             if answer.status != Status.FREE and end == "cut":
-                raise Stopped(f"the checker {self.path} knows no windows: leave out --window", Status.WORDS)
+                raise Stopped(f"the checker {self.path} knows no windows: give --window 0", Status.WORDS)
             if answer.status != Status.FREE:
                 raise Stopped(f"the checker {self.path} can't be run: {answer.said}")
 

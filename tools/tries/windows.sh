@@ -39,6 +39,10 @@ try_no_cut() {
         expect_windows "$library: windows.c $way" 0 0 "$why"
     done <<'END_OF_WAYS'
 under moments without a cut: messages were under way
+self moments without a cut: messages were under way
+alone moments without a cut: messages were under way
+probed moments without a cut: messages were under way
+matched moments without a cut: calls failed, aren't recorded
 file moments without a cut: calls failed, aren't recorded
 threads no windows, with MPI_THREAD_MULTIPLE
 END_OF_WAYS
@@ -121,6 +125,8 @@ try_windows() {
     expect_windows "$library: windows.c, --keep" 0 3 'verdict free'
     run_with --again
     expect_windows "$library: windows.c, --again" 0 3 'verdict free'
+    run_with --window 600 "${command[@]}" 400 orders
+    expect_windows "$library: windows.c orders" 0 3 'verdict free'
     run_with --window 600 "${command[@]}" 400 head 150
     expect_windows "$library: windows.c head" 1 2 '^tools/run: window [0-9]* of journal: verdict hang'
     expect_removed "$library: windows.c head" 2
