@@ -60,8 +60,8 @@ try_random_windows() {
         try_fault "$library: random program $seed with a fault, in windows" --window 100 "${command[@]}" \
             "$seed" 120 fault
     done
-    echo "$library: $seeds programs with a fault, in windows: $found hung and were found, $unknown hung and are" \
-        "unfinished, $right ended"
+    echo "$library: $seeds programs with a fault, in windows: $found hung and were found, $unknown hung and" \
+        "are unfinished, $right ended"
 }
 
 # A rank without a recorder meets nobody's exchange.
@@ -94,6 +94,16 @@ watch_windows() {
     wait $!
 }
 
+# The verdict, the status, and how many windows were judged, how many weren't, and of how many calls.
+counted_windows() {
+    python3 - "$work/json" <<'END'
+import json, sys
+story = json.load(open(sys.argv[1]))
+windows = story["windows"]
+print(story["verdict"], story["status"], windows["judged"], windows["unjudged"], windows["calls"])
+END
+}
+
 # A run of 20,000,000 calls of each rank is judged to its end, or where it hangs after three quarters of that.
 try_windows_large() {
     local library=$1 way name seconds processor megabytes disk found
@@ -101,14 +111,13 @@ try_windows_large() {
     prepare "$library" windows.c 4
     for way in free hang; do
         name="$library: windows.c, 20,000,000 calls, $way"
-        watch_windows 3921569 "$way" 2941176 "${WORK:-20}"
+        watch_windows 3921569 "$way" 2941176 "${REST:-20}"
         read -r seconds processor megabytes <"$work/used"
         disk=$(<"$work/disk")
-        found=$(python3 -c 'import json, sys; found = json.load(open(sys.argv[1])); print(found["verdict"],
-            found["status"], *(found["windows"][name] for name in ("judged", "unjudged", "calls")))' "$work/json")
+        found=$(counted_windows)
         echo "$name: $found; $seconds s, $processor s of the processor, $megabytes MB, $disk MB of disk"
         ((megabytes <= 1000 && disk <= 200)) || fails "$name: more than 1 GB or 200 MB of disk"
-        [[ $found == "$way "* && $found == *" 0 "* ]] || fails "$name: another verdict, or not all are judged"
+        [[ $found =~ ^$way\ [0-9]+\ [0-9]+\ 0\  ]] || fails "$name: another verdict, or not all are judged"
     done
     seconds=$(($(date +%s) - $(sed -n 's/^hang at //p' "$work/errors")))
     ((seconds <= 15)) || fails "$name: reported and ended $seconds seconds later"

@@ -1,5 +1,5 @@
-/* windows STEPS [WAY AT [WORK]]: each rank exchanges halos with its neighbours, and all sum up after each 10
- * steps. A receive from anybody is active throughout. A step computes for WORK microseconds. At step AT the
+/* windows STEPS [WAY AT [REST]]: each rank exchanges halos with its neighbours, and all sum up after each 10
+ * steps. A receive from anybody is active throughout. After a step it rests REST microseconds. At step AT the
  * ranks may do otherwise. `head`: ranks 0 and 1 send to each other before they receive. `hang`: rank 0
  * receives what nobody sends, and writes when. `under`, `self`, `alone`, `probed`, `matched`: from there on a
  * message is under way at each sum: to a neighbour, to oneself, on MPI_COMM_SELF, one that a probe saw or
@@ -15,10 +15,10 @@ enum { TO_LEFT = 1, TO_RIGHT = 2, LATE = 3, NEVER = 4, HEAD = 5 };
 static int me, ranks;
 static const char *way = "";
 
-static void compute(double seconds) {
-    double until = MPI_Wtime() + seconds;
-    while (MPI_Wtime() < until)
-        ;
+static void rest(long microseconds) {
+    struct timespec time = {.tv_nsec = microseconds * 1000};
+    if (microseconds > 0)
+        nanosleep(&time, NULL);
 }
 
 static void exchange(void) {
@@ -92,7 +92,7 @@ static void do_otherwise(void) {
 
 int main(int argc, char **argv) {
     long steps = argc > 1 ? atol(argv[1]) : 1000, at = argc > 3 ? atol(argv[3]) : -1;
-    double work = argc > 4 ? atof(argv[4]) / 1e6 : 0;
+    long pause = argc > 4 ? atol(argv[4]) : 0;
     int in, level;
     MPI_Request late;
     way = argc > 2 ? argv[2] : "";
@@ -105,7 +105,7 @@ int main(int argc, char **argv) {
     MPI_Irecv(&in, 1, MPI_INT, MPI_ANY_SOURCE, LATE, MPI_COMM_WORLD, &late);
     for (long step = 0; step < steps; step++) {
         exchange();
-        compute(work);
+        rest(pause);
         if (step == at)
             do_otherwise();
         if (step % 10 == 9)
