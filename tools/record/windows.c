@@ -89,7 +89,7 @@ void windows_close(void) { are_cut = false; }
 static bool has_doubts(void) {
     int count;
     const Request **active = requests_active(&count);
-    bool found = !active || in_doubt || !recording || journal_is_full || holds_messages();
+    bool found = !active || in_doubt || !recording || holds_messages();
     for (int i = 0; i < count && !found; i++) {
         const Request *one = active[i];
         bool is_lost = one->receive.is_there && !is_had(one->receive.comm);
@@ -155,11 +155,11 @@ static void plan_next(Meetings *here, unsigned long lines) {
 static void exchange(Meetings *here) {
     unsigned long now = journal_lines();
     uint64_t sums[] = {sum_of_messages(), sum_of_waves(), has_doubts()}, all[3];
-    uint64_t lines[] = {now - cut_at, now - here->lines}, most[2];
+    uint64_t lines[] = {now - cut_at, now - here->lines, journal_is_full}, most[3];
     CALL(Allreduce, (sums, all, 3, MPI_UINT64_T, MPI_SUM, own));
-    CALL(Allreduce, (lines, most, 2, MPI_UINT64_T, MPI_MAX, own));
+    CALL(Allreduce, (lines, most, 3, MPI_UINT64_T, MPI_MAX, own));
     plan_next(here, most[1]);
-    if (most[0] < wanted)
+    if (most[0] < wanted || most[2])
         return;
     if (all[0] || all[1] || all[2])
         note_why(all);
