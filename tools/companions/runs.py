@@ -23,7 +23,7 @@ MATCHED = {"mprobe", "improbe"}  # they take messages, for which other requests 
 class Run:
     def __init__(self, folder):
         self.folder, self.journals = Path(folder), journals_in(folder, self)
-        self.top = top_of(self.folder)
+        self.top, self.windows = top_of(self.folder), None  # those before it, of a run's last one
         self.ranks, self.places = range(len(self.journals)), Places(self.journals)
         self.unrecorded = Counter(written(self.top / "unrecorded"))
         self.has_ended = all(journal.has_ended for journal in self.journals)
@@ -225,8 +225,9 @@ class Judgement:
     strict: the calls wait as long as MPI lets them; went: where the ranks were when recording was cut off;
     pass: as strict, but tests wait for nothing; buffered: as strict, with all messages buffered."""
 
-    def __init__(self, judge, run, eager=None, is_short=False, program_status=0, windows=None):
-        self.judge, self.run, self.eager, self.is_short, self.windows = judge, run, eager, is_short, windows
+    def __init__(self, judge, run, eager=None, is_short=False, program_status=0):
+        self.judge, self.run, self.eager, self.is_short = judge, run, eager, is_short
+        self.windows = run.windows
         self.answers, self.views = {}, {}
         if not run.has_ended:
             self._ask("went", calls="went")

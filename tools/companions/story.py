@@ -46,7 +46,9 @@ TIMES = "\0"  # how often ranks asked
 class Story(Judgement):
     """A run that was judged, and what is said of it."""
     def __init__(self, folder, judge, name="a run", seconds=0.0, heading="", **more):
-        super().__init__(judge, Run(folder), **more)
+        run = Run(folder)
+        run.windows = more.pop("windows", None)
+        super().__init__(judge, run, **more)
         self.name, self.seconds, self.heading = name, seconds, heading
         self.stuck = list(self.shown.stuck.values()) if self.shown else []
         # The places of all calls that are named are looked up at once.
