@@ -83,7 +83,7 @@ class Closed(Cut):
 class Judged(Cut):
     def test_free_ones_are_removed(self):
         found = self.judged(FREE, FREE, LAST)
-        wanted = {"judged": 2, "calls": 8, "unjudged": 0, "first": None}
+        wanted = {"judged": 2, "calls": 8, "unjudged": 0, "first": None, "different": None}
         self.assertEqual((found.counts(), self.there(), self.said), (wanted, [3], ""))
 
     def test_free_ones_are_kept(self):
@@ -97,8 +97,13 @@ class Judged(Cut):
         self.assertIn("rank 0 waits in MPI_Send at /a.py:7", self.said)
         self.assertNotIn("window 3", self.said)
 
-    def test_different_roots_are_not_free(self):
-        self.assertEqual(self.judged(ROOTS, LAST).first, 1)
+    def test_different_roots_are_told_and_change_no_verdict(self):
+        found = self.judged(FREE, ROOTS, ROOTS, HANG, LAST)
+        self.assertEqual((found.differs, found.first, found.count("different"), self.there()), (2, 4, 2, [2, 4, 5]))
+        self.assertEqual(self.said.count("window 2 of journal: verdict free"), 1)
+        self.assertIn("different roots meet on MPI_COMM_WORLD", self.said)
+        self.assertNotIn("window 3", self.said)
+        self.assertIn("window 4 of journal: verdict hang", self.said)
 
     def test_one_that_is_not_clean(self):
         found = self.judged(UNCLEAN, LAST)
@@ -199,6 +204,24 @@ class Reports(Cut):
         said = ["moments without a cut: messages were under way: 12 times"]
         self.assertEqual(dict(last.sections)[title], said)
 
+    def test_different_roots(self):
+        differs, last = self.stories(ROOTS, FREE, LAST)
+        self.assertEqual([one.heading for one in (differs, last)],
+                         ["Window 1, the first in which calls differ", "Window 3, the last"])  # fmt: skip
+        self.assertEqual([differs.status, last.status], [7, 0])
+        self.assertEqual([differs.name, last.name], ["a run, window 1", "a run"])
+        self.assertIn("calls or roots of one collective differ in 1 window", dict(last.sections)["Windows"])
+
+    def test_why_there_are_no_windows_at_all(self):
+        """Only if one would have been due."""
+        top, title = self.put(), "Why the recording wasn't cut where it could have been"
+        for calls, wanted in (("full", ["no windows, with MPI_THREAD_MULTIPLE"]), ("finalize", None)):
+            for rank in (0, 1):
+                self.write(f"journal/journal{rank}", journal(rank, 2, calls))
+                self.write(f"journal/left{rank}", "N 000000000001 no windows, with MPI_THREAD_MULTIPLE\n")
+            (story,) = stories_of(top, Stored(), None)
+            self.assertEqual((story.heading, dict(story.sections).get(title)), ("", wanted))
+
     def test_names_and_counts_are_those_of_the_run(self):
         top = self.put(FREE)
         self.write("journal/names0", "2 rows\n")
@@ -224,7 +247,7 @@ class Commands(Cut):
         self.assertEqual(done.returncode, 1, done.stderr)
         self.assertTrue(done.stdout.startswith("Window 2, the first that isn't free\n"), done.stdout)
         found = json.loads(self.read("a-2.json"))["windows"]
-        self.assertEqual(found, {"judged": 2, "calls": 8, "unjudged": 0, "first": 2})
+        self.assertEqual(found, {"judged": 2, "calls": 8, "unjudged": 0, "first": 2, "different": None})
         self.assertEqual(windows_in(self.folder / "mpiwait-run/journal"), [1, 2, 4])
 
     def test_again_after_windows_were_removed(self):
@@ -235,15 +258,52 @@ class Commands(Cut):
     def test_again_counts_those_that_are_gone(self):
         top = self.put(FREE, FREE, HANG, LAST)
         found = self.windows_of(top)
-        found.note()
-        wanted = {"judged": 3, "calls": 12, "unjudged": 0, "first": 3}
+        wanted = {"judged": 3, "calls": 12, "unjudged": 0, "first": 3, "different": None}
         self.assertEqual((found.counts(), self.there()), (wanted, [3, 4]))
         self.assertEqual(self.windows_of(top, keeps=True).counts(), wanted)
 
-    def test_limits(self):
-        self.keep(FREE, HANG, LAST)
+    def test_again_with_another_limit(self):
+        """What is gone was judged strictly with one limit, and as it went behind the first that isn't free."""
+        top = self.put(FREE, HANG, FREE, LAST)
+        self.assertEqual(self.windows_of(top).unjudged(), 0)
+        for eager, unjudged in ((None, 0), (3, 0), (4, 1)):
+            found = Windows(top, Stored(), keeps=True, eager=eager)
+            with contextlib.redirect_stderr(io.StringIO()):
+                while found.catch_up():
+                    pass
+            self.assertEqual((eager, found.unjudged()), (eager, unjudged))
+        self.assertIn("1 window was judged with another --eager, or as they went alone", "\n".join(found.lines()))
+
+    def test_again_with_less_than_the_limit_of_those_that_are_gone(self):
+        top = self.put(None, None, LAST)
+        self.write("journal/windows", '{"free": 2, "judged": 2, "eager": 8}\n')
+        found = {eager: Windows(top, Stored(), eager=eager).unjudged() for eager in (None, 7, 8, 9)}
+        self.assertEqual(found, {None: 2, 7: 2, 8: 0, 9: 0})
+
+    def test_what_is_gone_is_noted_at_once(self):
+        found = Windows(self.put(*[FREE] * 10, LAST), Stored(), eager=5)
+        found.catch_up()
+        found.drop()
+        noted = json.loads(self.read("journal/windows"))
+        self.assertEqual(noted, {"calls": 4, "free": 1, "judged": 1, "removed": 1, "eager": 5})
+
+    def limits(self, *all_windows, noted="{}"):
+        self.again()
+        self.keep(*all_windows)
+        self.write("mpiwait-run/journal/windows", noted)
         done = self.command("limits", "mpiwait-run", env=os.environ | CHECKER)
-        self.assertEqual((done.returncode, done.stdout.splitlines()[-1]), (0, "the least limit with the verdict free is 4"))
+        return done.returncode, done.stdout.splitlines()[-1]
+
+    def test_limits(self):
+        least = (0, "the least limit with the verdict free is 4")
+        self.assertEqual(self.limits(FREE, HANG, LAST), least)
+        self.assertEqual(self.limits(None, HANG, LAST, noted='{"free": 1}'), least)
+        self.assertEqual(self.limits(None, HANG, LAST, noted='{"free": 1, "eager": 4}'), least)
+        self.assertEqual(self.limits(HANG, FREE, noted='{"removed": 2}'),
+                         (6, "2 windows that are gone may hang: tools/run --keep keeps all"))  # fmt: skip
+        gone = (6, "1 window that is gone may hang: tools/run --keep keeps all")
+        self.assertEqual(self.limits(None, HANG, LAST, noted='{"free": 1, "eager": 8}'), gone)
+        self.assertEqual(self.limits(HANG, None, LAST, noted='{"later": 1}'), gone)
 
     def test_words(self):
         for words in (["--window", "-1", "x"], ["--window", "900000", "x"], ["--window", "9", "--unproved", "x"],

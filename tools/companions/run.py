@@ -11,9 +11,9 @@ from pathlib import Path
 from .outputs import OUTPUTS, report, runs_in
 from .recorder import library_of, with_recorder
 from .runs import MOST_BYTES, VERDICTS, Judge
-from .script import HERE, Status, Stopped, Words, say
+from .script import HERE, Status, Stopped, Words, plural, say
 from .watching import Alarm, run_command
-from .windows import Judging, kept_runs, stories_of
+from .windows import Judging, Windows, kept_runs, stories_of
 
 TEXT = """Records a run of an MPI program, judges it, and reports which calls wait, with lines of code.
 
@@ -27,7 +27,8 @@ LINES, MOST_LINES = 0, 800_000
 LIMITS = """Finds the least N of --eager N at which a recorded run can't hang. FOLDER is that of tools/run.
 
 It judges by 0 and by sizes of standard sends, since between two of these no verdict changes: by halves, or
-all if ranks were cut off. The status is 0 if some limit is free, else 1; 2, 3 and 4 are as for tools/run."""
+all if ranks were cut off. The status is 0 if some limit is free, else 1; 2, 3 and 4 are as for tools/run.
+Of a run's windows it judges those that are kept: 6 if others weren't judged strictly with that limit."""
 
 
 def words_of(argv):
@@ -166,8 +167,14 @@ def limits_main(argv):
     if folder not in runs_in(folder):
         raise Stopped(f"{folder} has no journals", Status.WORDS)
     free = try_limits(kept_runs(folder))
-    if not free or None in free:
+    least = None if not free or None in free else min(free)
+    unjudged = Windows(folder, None, eager=least).unjudged() if free else 0
+    if unjudged:
+        print(f"{plural(unjudged, 'window')} that {'is' if unjudged == 1 else 'are'} gone may hang: "
+              "tools/run --keep keeps all")  # fmt: skip
+        return Status.NOT_JUDGED
+    if least is None:
         print("the verdict is free without a limit" if free else "no limit has the verdict free")
     else:
-        print(f"the least limit with the verdict free is {min(free)}")
+        print(f"the least limit with the verdict free is {least}")
     return Status.FREE if free else Status.HANG

@@ -110,15 +110,22 @@ class Story(Judgement):
                      "Receives of which it isn't known what they took": self._stops(False),
                      "Unanswered questions": [": ".join(one) for one in self.unanswered.items()]}  # fmt: skip
         found["Windows"] = list(self.windows.lines()) if self.windows else []
-        found[UNCUT] = [f"{call}: {plural(max(ranks.values()), 'time')}" for call, ranks in self.run.uncut]
-        is_full = any(one.last and one.last.word == "full" for one in self.run.journals)
-        if not found[UNCUT] and self.windows and is_full:
-            found[UNCUT] = [NO_MEETING]
+        found[UNCUT] = list(self._uncut())
         for meaning, title in MEANINGS.items():
             calls = sorted(self.run.left_out[meaning].items(), key=lambda one: -sum(one[1].values()))
             found[title] = [f"{sum(ranks.values()):,} {call} ({ranks_named(ranks)})" for call, ranks in calls]
         found[UNRECORDED] = [f"{plural(count, 'process', 'processes')}: {why}" for why, count in counts]
         yield from ((title, shortened(lines, 24)) for title, lines in found.items() if lines)
+
+    def _uncut(self):
+        """Why there was no window: if one was due, or would have been."""
+        is_full = any(one.last and one.last.word == "full" for one in self.run.journals)
+        for call, ranks in self.run.uncut:
+            if call.startswith("moments"):
+                yield f"{call}: {plural(max(ranks.values()), 'time')}"
+            elif is_full:
+                yield call
+        yield from [NO_MEETING] if is_full and self.windows and not self.run.uncut else []
 
     def _causes(self):
         went, rules = self.went, self.rules

@@ -2,10 +2,11 @@
 
 A window is closed once the journals of all ranks end with `cut'. If it is free, all that was before the next
 one is, and can be forgotten. The first one that isn't free stays, and those after it are judged as they went
-alone.
+alone. What was found of those that are gone is in the file `windows' of the run.
 """
 
 import json
+import os
 import shutil
 import threading
 from collections import Counter
@@ -21,17 +22,22 @@ MOST_WAITING, PAUSE = 8, 0.1  # closed windows; seconds
 REMOVED = f"removed without a judgement, since more than {MOST_WAITING} waited"
 FREE = "nobody waits there for ever"
 BY_TESTS = "would hang only if nothing else is done until a test succeeds"
+DIFFER = "calls or roots of one collective differ"
+OTHERWISE = "judged with another --eager, or as they went alone, and aren't kept (--keep keeps them)"
 
 
 class Windows:
     """The windows of one run, and what was found of those that are closed."""
     def __init__(self, folder, judge, keeps=False, eager=None):
         self.folder, self.judge, self.keeps, self.eager = folder, judge, keeps, eager
-        self.first, self.lock, self.closed, self.done, self.odd = None, threading.Lock(), set(), set(), []
+        self.lock, self.closed, self.done, self.odd = threading.RLock(), set(), set(), []
+        self.first = self.differs = None  # those that stay: not free; free, but calls or roots differ
         self.found = Counter()  # how many were judged, their calls, which are by tests alone, ..
-        self.gone = Counter()  # of those that aren't there any more
+        noted = {}
         with suppress(OSError, ValueError):
-            self.gone += Counter(json.loads((folder / "windows").read_text(encoding="ascii")))
+            noted = json.loads((folder / "windows").read_text(encoding="ascii"))
+        # By which limit those were judged that aren't there any more, and what was found of them.
+        self.limit, self.gone = noted.pop("eager", eager), Counter(noted)
 
     def count(self, what):
         return self.found[what] + self.gone[what]
@@ -58,10 +64,17 @@ class Windows:
 
     def remove(self, number, found):
         """Counts what was found of a window, and removes it, if it needn't be kept."""
-        is_gone = not self.keeps and number != self.first
-        (self.gone if is_gone else self.found).update(found)
-        if is_gone:
-            shutil.rmtree(self.folder / str(number), ignore_errors=True)
+        is_gone = not self.keeps and number not in (self.first, self.differs)
+        with self.lock:
+            (self.gone if is_gone else self.found).update(found)
+            if is_gone:
+                self.note()
+                shutil.rmtree(self.folder / str(number), ignore_errors=True)
+
+    def note(self):
+        new = self.folder / "windows.new"
+        new.write_text(json.dumps(dict(self.gone, eager=self.limit)) + "\n", encoding="ascii")
+        os.replace(new, self.folder / "windows")
 
     def catch_up(self):
         """Judges those that wait. Answers whether there were any."""
@@ -75,7 +88,7 @@ class Windows:
         return True
 
     def judge_strictly(self, number):
-        """Answers what it is: free, by_tests (a hang by these alone), first or failed."""
+        """Answers what it is: free, by_tests (a hang by these alone), different, first or failed."""
         window = self.folder / str(number)
         answer = self.judge.ask(window, eager=self.eager)
         if answer.status == Status.IMPOSSIBLE:
@@ -85,9 +98,14 @@ class Windows:
         story = Story(window, self.judge, eager=self.eager)
         if story.status in (Status.FREE, Status.NOT_JUDGED):
             return "by_tests" if story.by_tests else "free"
+        is_free = story.status == Status.DIFFERENT and story.verdict == "free"
+        if not is_free or self.differs is None:
+            _, lines = next(iter(story.sections), ("", []))
+            say("\n  ".join([f"window {number} of {self.folder.name}: {story.title}", *lines[:12]]))
+        if is_free:
+            self.differs = self.differs or number
+            return "different"
         self.first = number
-        _, lines = next(iter(story.sections), ("", []))
-        say("\n  ".join([f"window {number} of {self.folder.name}: {story.title}", *lines[:12]]))
         return "first"
 
     def judge_as_it_went(self, number):
@@ -109,37 +127,41 @@ class Windows:
         numbers = windows_in(self.folder)
         return next((one for one in numbers if not is_closed(self.folder / str(one))), numbers[-1])
 
+    def judged_otherwise(self):
+        """How many that are gone weren't judged strictly with this limit."""
+        is_less = self.limit is not None and (self.eager is None or self.eager < self.limit)
+        strictly = sum(self.gone[what] for what in ("free", "by_tests", "different"))
+        return strictly * is_less + self.gone["later"] * (self.first is None)
+
     def unjudged(self):
-        return self.count("removed") + self.count("failed")
+        return self.count("removed") + self.count("failed") + self.judged_otherwise()
 
     def counts(self):
         counts = {what: self.count(what) for what in ("judged", "calls")}
-        return counts | {"unjudged": self.unjudged(), "first": self.first}
+        return counts | {"unjudged": self.unjudged(), "first": self.first, "different": self.differs}
 
     def lines(self):
-        judged, by_tests, removed, failed = map(self.count, ("judged", "by_tests", "removed", "failed"))
+        judged, by_tests, differ, failed = map(self.count, ("judged", "by_tests", "different", "failed"))
         counts = f"{plural(judged, 'window')} of {plural(self.count('calls'), 'call')}"
         counts += f" {'was' if judged == 1 else 'were'} judged before the last one"
         free = f"window {self.first} was the first that isn't free" if self.first else FREE
-        tested = f"{plural(by_tests, 'window')} {BY_TESTS}"
-        lost = f"{plural(removed, 'window was', 'windows were')} {REMOVED}"
         yield from [f"{counts}: {free}"] if judged else []
-        yield from [tested] if by_tests else []
-        yield from [lost] if removed else []
+        yield from [f"{plural(by_tests, 'window')} {BY_TESTS}"] if by_tests else []
+        yield from [f"{DIFFER} in {plural(differ, 'window')}"] if differ else []
+        for count, what in ((self.count("removed"), REMOVED), (self.judged_otherwise(), OTHERWISE)):
+            yield from [f"{plural(count, 'window was', 'windows were')} {what}"] if count else []
         yield from [f"{plural(failed, 'window')} couldn't be judged"] if failed else []
         yield from self.odd
 
-    def stories(self, judge, **more):
-        """That of the first window that isn't free, and that of the last one."""
+    def stories(self, judge, name, **more):
+        """Those of the windows that stay, and that of the last one."""
         last = self.last()
-        if self.first is not None and self.first != last:
-            heading = f"Window {self.first}, the first that isn't free"
-            yield Story(self.folder / str(self.first), judge, **more, heading=heading)
+        stay = {self.first: "the first that isn't free", self.differs: "the first in which calls differ"}
+        for number in sorted(set(stay) - {None, last}):
+            heading = f"Window {number}, {stay[number]}"
+            yield Story(self.folder / str(number), judge, f"{name}, window {number}", heading=heading, **more)
         heading = f"Window {last}, the last"
-        yield Story(self.folder / str(last), judge, **more, heading=heading, windows=self)
-
-    def note(self):
-        (self.folder / "windows").write_text(json.dumps(self.gone) + "\n", encoding="ascii")
+        yield Story(self.folder / str(last), judge, name, heading=heading, windows=self, **more)
 
 
 class Judging:
@@ -173,19 +195,18 @@ class Judging:
         for one in self.all():
             while one.catch_up():
                 pass
-            one.note()
         return self.runs
 
 
-def stories_of(folder, judge, windows, **more):
+def stories_of(folder, judge, windows, name="a run", **more):
     """What is said of a run: of its windows, if it has any."""
     if not windows_in(folder):
-        return [Story(folder, judge, **more)]
+        return [Story(folder, judge, name, **more)]
     if windows is None:
         windows = Windows(folder, judge, keeps=True, eager=more.get("eager"))
         while windows.catch_up():
             pass
-    return list(windows.stories(judge, **more))
+    return list(windows.stories(judge, name, **more))
 
 
 def kept_runs(folder):
