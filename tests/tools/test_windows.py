@@ -312,8 +312,7 @@ class Commands(Cut):
                 os.environ.pop("MPIWAIT", None)
                 with self.assertRaises(Stopped):
                     run.words_of(words)
-        self.assertEqual(run.words_of(["x"]).window, run.LINES)
-        with mock.patch.dict(os.environ), mock.patch("companions.run.LINES", 200_000):
+        with mock.patch.dict(os.environ):
             os.environ.pop("MPIWAIT", None)
             asked = (["x"], ["--window", "0", "x"], ["--window", "9", "x"], ["--unproved", "x"], ["--again"])
             self.assertEqual([run.words_of(words).window for words in asked], [200_000, 0, 9, 0, 0])

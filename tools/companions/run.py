@@ -22,8 +22,8 @@ TEXT = """Records a run of an MPI program, judges it, and reports which calls wa
 
 The status is 0 free, 1 hang, 2 refused, 3 words or installation, 4 nothing could be judged, 5 unfinished,
 6 not judged, 7 calls or roots of one collective differ, 8 the program failed. MPIWAIT names a checker."""
-# The lines of a window, by default (0: there are none) and at most; a journal has 1,000,000 calls.
-LINES, MOST_LINES = 0, 800_000
+# The lines of a window, by default and at most; a journal has 1,000,000 calls. With 0 there are no windows.
+LINES, MOST_LINES = 200_000, 800_000
 LIMITS = """Finds the least N of --eager N at which a recorded run can't hang. FOLDER is that of tools/run.
 
 It judges by 0 and by sizes of standard sends, since between two of these no verdict changes: by halves, or
@@ -44,7 +44,7 @@ def words_of(argv):
     add("--mpi", choices=("mpich", "openmpi"), help="the MPI library, if the command doesn't show it")
     add("--strict", action="store_true", help="pass standard sends on as synchronous ones")
     add("--eager", metavar="N", type=int, help="sends of at most N bytes are buffered")
-    add("--window", metavar="N", type=int, help=f"judge parts of N lines meanwhile (default: {LINES})")
+    add("--window", metavar="N", type=int, help=f"judge parts of N lines meanwhile (default: {LINES}; 0: none)")
     add("--keep", action="store_true", help="keep parts that are free too")
     for name, (*_, text) in OUTPUTS.items():
         add(f"--{name}", metavar="FILE", type=Path, help=f"write {text} to FILE")

@@ -9,6 +9,13 @@ report_in() {
         sed -E 's/\([0-9,]+ times, found nothing\)/(N times, found nothing)/'
 }
 
+# The folder of the journals, or of those of the first window.
+journals() {
+    local folder=$work/run/journal
+    [[ ! -d $folder/1 ]] || folder+=/1
+    echo "$folder"
+}
+
 # Journals are as their format has them.
 check_journals() {
     local name=$1 folder

@@ -44,8 +44,16 @@ alone moments without a cut: messages were under way
 probed moments without a cut: messages were under way
 matched moments without a cut: calls failed, aren't recorded
 file moments without a cut: calls failed, aren't recorded
-threads no windows, with MPI_THREAD_MULTIPLE
 END_OF_WAYS
+    run_with --window 500 "${command[@]}" 200 threads 0
+    expect_no_windows "$library: windows.c threads" 'no windows, with MPI_THREAD_MULTIPLE'
+}
+
+# There are none, for a reason that the report of a full journal would have.
+expect_no_windows() {
+    expect_windows "$1" 0 0 'verdict free'
+    grep -q -- "$2" "$work/run/journal/left0" || fails "$1: not counted: $2"
+    [[ $(journals) != */1 ]] || fails "$1: there are windows"
 }
 
 # Random programs have the verdict that they have without windows.
@@ -69,7 +77,7 @@ try_unrecorded_window() {
     local library=$1
     prepare "$library" windows.c 1
     run_with --window 500 --for 60 "${command[@]}" 200 : -n 1 env -u LD_PRELOAD "$work/program" 200
-    expect_windows "$library: windows.c, a rank that isn't recorded" "$status" 0 'no windows'
+    grep -q 'no windows, since a rank' "$work/run/journal/left0" || fails "$library: windows.c: not counted"
     ! grep -q 'was ended' "$work/errors" || fails "$library: windows.c, a rank that isn't recorded: it hung"
 }
 
