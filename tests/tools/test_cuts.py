@@ -61,6 +61,17 @@ CLEAN = {
         ["split 0 0 0 1 / split 0 0 0 2 / barrier 2 / bcast 1 0 / finalize",
          "split 0 0 1 1 / split 0 0 1 2 / barrier 2 / bcast 1 0 / finalize"],
     ),
+    "probes on both sides": (
+        ["probe 0 1 0 / recv 0 1 0 / | / probe 0 1 0 / recv 0 1 0 / finalize", "send 0 0 0 / | / send 0 0 0 / finalize"],
+        ["probe 0 1 0 / recv 0 1 0 / finalize", "send 0 0 0 / finalize"],
+        ["probe 0 1 0 / recv 0 1 0 / finalize", "send 0 0 0 / finalize"],
+    ),
+    "nonblocking collectives that cross": (
+        ["ibarrier 1 0 / iallreduce 2 0 / | / wait 2 / wait 1 / finalize",
+         "ibarrier 1 0 / iallreduce 2 0 / wait 2 / | / wait 1 / finalize"],
+        ["ibarrier 0 0 / iallreduce 1 0 / finalize", "ibarrier 0 0 / iallreduce 1 0 / wait 1 / finalize"],
+        ["isend 0 0 null 0 / isend 1 0 null 0 / wait 1 / wait 0 / finalize", "isend 0 0 null 0 / wait 0 / finalize"],
+    ),
     "before all and behind all": (
         ["| / finalize", "barrier 1 / | / exit"],
         ["split 0 undefined 0 none / finalize", "split 0 0 0 1 / barrier 1 / finalize"],
@@ -149,6 +160,29 @@ class Cuts(Folders):
         for calls in ("strict", "went"):
             wrong, what = CUTS.difference(CUTS.Asked(TOP / "bench/journals.py"), windows, ["--calls", calls])
             self.assertEqual((wrong, what), ("", "free, then hang"))
+
+    def asked(self, windows, calls):
+        return CUTS.difference(CUTS.Asked(TOP / "bench/journals.py"), windows, ["--calls", calls])
+
+    def test_three_windows(self):
+        """The receive goes on twice."""
+        run, places = self.whole(["irecv 1 0 any 0 / barrier 0 / | / barrier 0 / recv 0 1 5 / wait 1 / =done 1 1 0 / finalize",
+                                  "barrier 0 / | / barrier 0 / send 0 0 5 / send 0 0 0 / finalize"])  # fmt: skip
+        first = CUTS.Windows(run, places, random.Random(1))
+        run, places = CUTS.Run(first.second), [3, 2]
+        self.assertEqual([*run.lacks(places, run.moved(places)), *run.more(places)], [])
+        later = CUTS.Windows(run, places, random.Random(1))
+        before = ["irecv 0 0 null 0 / barrier 0 / finalize", "barrier 0 / finalize"]
+        self.assertEqual([self.traces(first.first), self.traces(later.first)], [before, before])
+        self.assertEqual(self.traces(later.second), ["irecv 0 0 1 0 / recv 0 1 5 / wait 0 / finalize",
+                                                     "send 0 0 5 / send 0 0 0 / finalize"])  # fmt: skip
+        self.assertEqual([self.asked(one, "strict") for one in (first, later)], [("", "free, then free")] * 2)
+
+    def test_a_window_that_is_not_free_and_a_later_one(self):
+        run, places = self.whole([f"send 0 {1 - rank} 0 / recv 0 {1 - rank} 0 / | / barrier 0 / finalize" for rank in (0, 1)])
+        windows = CUTS.Windows(run, places, random.Random(1))
+        self.assertEqual(self.asked(windows, "strict"), ("", "not free"))
+        self.assertEqual(self.asked(windows, "went"), ("", "free, then free"))
 
     def test_windows_that_say_something_else_are_found(self):
         run, places = self.whole(["send 0 1 0 / | / recv 0 1 1 / finalize", "recv 0 0 0 / | / finalize"])
