@@ -19,6 +19,7 @@ enum {
 };
 
 bool recording, journal_is_full, in_doubt;
+int journal_site;
 
 /* What the header of each window's journal has, and the folder of the run. */
 static struct {
@@ -184,6 +185,7 @@ void journal_call(const char *word, int count, const Field *fields, int site) {
     if (journal_is_full || !has_room(count))
         return;
     journal_is_full = ++journal.calls > MOST_CALLS;
+    journal_site = site;
     if (journal_is_full)
         put_line("full", 0, NULL, site);
     else

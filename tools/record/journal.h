@@ -78,7 +78,8 @@ unsigned long journal_lines(void);
 /* A call of the program begins. It may write several lines, or none. */
 void journal_begin(void);
 
-/* Writes a line for it, with a site that `site_of` gave. */
+/* Writes a line for it, with a site that `site_of` gave: that of the last line is in `journal_site`. */
+extern int journal_site;
 void journal_call(const char *word, int count, const Field *fields, int site);
 
 /* Writes a result of the call, or what became of an earlier call's request. The word begins with `=`. */

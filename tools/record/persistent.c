@@ -72,6 +72,7 @@ static void start_one(MPI_Request handle) {
     request->sent = request->receive.is_there ? 0 : sends(fields[0], fields[1], fields[2]);
     if (request->number)
         PUT(template->word, request->number, fields[0], fields[1], fields[2], fields[3]);
+    request->site = journal_site;
 }
 
 /* After an error it isn't known which of them were started. */

@@ -27,6 +27,7 @@ typedef struct {
     int number;  /* in the journal, from 1; 0 where its call isn't recorded, or a persistent one isn't started
                   */
     int second;  /* the number of its receive, where the call sends and receives; else 0 */
+    int site;    /* of the call that started it */
     bool active; /* started, and not known to be complete */
     bool persistent;
     bool wild;              /* a receive with a wildcard, whose status will be asked for */

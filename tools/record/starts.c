@@ -51,6 +51,7 @@ Request *started(MPI_Request *handle, int number) {
     Request *request = added(*handle);
     if (request) {
         request->number = number;
+        request->site = journal_site;
         request->active = true;
     }
     return request;

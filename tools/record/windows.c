@@ -107,9 +107,10 @@ static int number_of_receive(const Request *request) {
 static void put_start(const Request *request) {
     Receive wanted = request->receive;
     if (!wanted.is_there || request->second)
-        journal_call("isend", FIELDS(request->number, WORLD, NULL_PEER, 0), 0);
+        journal_call("isend", FIELDS(request->number, WORLD, NULL_PEER, 0), request->site);
     if (wanted.is_there)
-        journal_call("irecv", FIELDS(number_of_receive(request), wanted.comm, wanted.source, wanted.tag), 0);
+        journal_call("irecv", FIELDS(number_of_receive(request), wanted.comm, wanted.source, wanted.tag),
+                     request->site);
 }
 
 /* The requests that are active go on in the next window. */
