@@ -113,10 +113,8 @@ END
 }
 
 # A run of 20,000,000 calls of each rank is judged to its end, or where it hangs after three quarters of that.
-try_windows_large() {
+try_long_runs() {
     local library=$1 way name seconds processor megabytes disk found
-    knows_windows || { echo "$library: windows-large: passed over: the checker knows none"; return; }
-    prepare "$library" windows.c 4
     for way in free hang; do
         name="$library: windows.c, 20,000,000 calls, $way"
         watch_windows 3921569 "$way" 2941176 "${REST:-20}"
@@ -128,7 +126,39 @@ try_windows_large() {
         [[ $found =~ ^$way\ [0-9]+\ [0-9]+\ 0\  ]] || fails "$name: another verdict, or not all are judged"
     done
     seconds=$(($(date +%s) - $(sed -n 's/^hang at //p' "$work/errors")))
-    ((seconds <= 15)) || fails "$name: reported and ended $seconds seconds later"
+    echo "$name: reported and ended $seconds seconds later"
+    ((seconds <= 15)) || fails "$name: more than 15 seconds later"
+}
+
+# Two ranks that send first in the third window are reported while the run goes on.
+try_head_in_a_window() {
+    local name="$1: windows.c, sends to each other in the third window" lines
+    watch_windows 600000 head 98039 "${REST:-20}"
+    lines=$(grep -o 'window [0-9]* of journal: verdict hang\|^end$' "$work/errors" | tr '\n' ' ')
+    if [[ $lines == 'window 3 of journal: verdict hang end ' ]]; then
+        echo "$name: reported while it runs"
+    else
+        fails "$name: $lines"
+    fi
+}
+
+# One that is never clean is recorded to the most calls, and the report says why.
+try_never_clean() {
+    local name="$1: windows.c, messages under way at each sum"
+    watch_windows 220000 under 0
+    if grep -q '"status": 5' "$work/json" && grep -q 'moments without a cut: messages were' "$work/json"; then
+        echo "$name: $(grep -o 'moments without a cut: [^"]*' "$work/json")"
+    else
+        fails "$name: another report"
+    fi
+}
+
+try_windows_large() {
+    knows_windows || { echo "$1: windows-large: passed over: the checker knows none"; return; }
+    prepare "$1" windows.c 4
+    try_long_runs "$1"
+    try_head_in_a_window "$1"
+    try_never_clean "$1"
 }
 
 try_windows() {
@@ -149,6 +179,8 @@ try_windows() {
     expect_removed "$library: windows.c head" 2
     run_with --window 600 --quiet 3 --stop --for 300 "${command[@]}" 400 hang 300
     expect_windows "$library: windows.c hang" 1 2 'wait for ever.*; the run is ended'
+    grep -q 'MPI_Irecv at .*windows[.]c:[0-9]' "$work/said" ||
+        fails "$library: windows.c hang: no line of the call that goes on"
     try_no_cut "$library"
     try_unrecorded_window "$library"
     try_random_windows "$library"

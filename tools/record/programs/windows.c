@@ -1,10 +1,10 @@
 /* windows STEPS [WAY AT [REST]]: each rank exchanges halos with its neighbours, and all sum up after each 10
  * steps. A receive from anybody is active throughout. After a step it rests REST microseconds. At step AT the
- * ranks may do otherwise. `head`: ranks 0 and 1 send to each other before they receive. `hang`: rank 0
- * receives what nobody sends, and writes when. `under`, `self`, `alone`, `probed`, `matched`: from there on a
- * message is under way at each sum: to a neighbour, to oneself, on MPI_COMM_SELF, one that a probe saw or
- * took. `orders`: two communicators that not all ranks number alike. `file`: a call that isn't recorded.
- * `threads`: MPI_THREAD_MULTIPLE, from the beginning. */
+ * ranks may do otherwise. `head`: ranks 0 and 1 send to each other before they receive; rank 0 writes `end`
+ * at its end. `hang`: rank 0 receives what nobody sends, and writes when. `under`, `self`, `alone`, `probed`,
+ * `matched`: from there on a message is under way at each sum: to a neighbour, to oneself, on MPI_COMM_SELF,
+ * one that a probe saw or took. `orders`: two communicators that not all ranks number alike. `file`: a call
+ * that isn't recorded. `threads`: MPI_THREAD_MULTIPLE, from the beginning. */
 #include <mpi.h>
 #include <stdio.h>
 #include <stdlib.h>
@@ -113,6 +113,8 @@ int main(int argc, char **argv) {
     }
     MPI_Send(&me, 1, MPI_INT, (me + 1) % ranks, LATE, MPI_COMM_WORLD);
     MPI_Wait(&late, MPI_STATUS_IGNORE);
+    if (is("head") && me == 0)
+        fprintf(stderr, "end\n");
     MPI_Finalize();
     return 0;
 }
