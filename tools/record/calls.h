@@ -12,6 +12,7 @@
  *   collectives.c     collectives
  *   strict.c          strict runs
  *   strict_pairs.c    their nonblocking calls that both send and receive
+ *   strict_waits.c    how their calls wait
  */
 #ifndef MPIWAIT_CALLS_H
 #define MPIWAIT_CALLS_H
@@ -69,6 +70,9 @@ bool take_barrier(MPI_Comm *comm);
 
 /* Whether the call is still recorded. */
 bool is_recorded(void);
+
+/* Whether it is, no other thread can complete a request meanwhile, and what is written now stays. */
+bool may_ask(void);
 
 /* Calls MPI. */
 void leave_recorder(void);
@@ -137,6 +141,9 @@ int new_number(void);
 /* A call started a request; its number is 0 if the call has no line. Answers its entry in the table, to be
  * filled in, or NULL if the recording stopped. */
 Request *started(MPI_Request *handle, int number);
+
+/* Writes what became of an open request: the message that a wildcard got, or whether it was cancelled. */
+void report_end(Request *request, const MPI_Status *status);
 
 /* A call made a persistent request that isn't recorded. */
 void made_persistent(MPI_Request *handle);

@@ -1,6 +1,6 @@
 /* Communicators and their numbers. See calls.h. */
 #define _GNU_SOURCE
-#include "calls.h"
+#include "strict.h"
 
 /* Each rank numbers its communicators by itself; what reads the journals finds which are the same. The number
  * is an attribute of the communicator. */
@@ -118,6 +118,7 @@ void adopt_duplicate(int request, MPI_Comm comm) { adopt_by("=idup", request, co
         int number = BEGINS ? numbered(comm, unnumbered) : UNNUMBERED; \
         if (number != UNNUMBERED) \
             PUT(word, number, ##__VA_ARGS__); \
+        strict_ask(); \
         int result = CALL(Name, args); \
         if (is_recorded() && number != UNNUMBERED && result == MPI_SUCCESS) \
             adopt("=comm", *new); \
