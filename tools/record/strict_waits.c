@@ -16,7 +16,7 @@ enum {
     BETWEEN = 20,      /* milliseconds from one time that all are asked to the next */
     MOST = 60000,      /* milliseconds until MPI waits for several requests itself */
     LOOKS = 32,        /* how often it looks for what the call waits for before it reads the clock */
-    BUSY_LOOKS = 1024, /* how often before other processes get a turn each time */
+    BUSY_LOOKS = 1024, /* how often before it lets other processes run after each look */
 };
 
 /* ---- Errors ------------------------------------------------------------------------------------ */
@@ -89,9 +89,10 @@ static Looks begin_looks(void) {
 
 /* After a look that found nothing: whether there are still requests to be asked. */
 static bool look_again(Looks *looks) {
-    if (++looks->count > BUSY_LOOKS)
+    bool is_busy = ++looks->count <= BUSY_LOOKS;
+    if (!is_busy)
         sched_yield();
-    long now = looks->count % LOOKS == 0 ? milliseconds() : looks->last;
+    long now = is_busy && looks->count % LOOKS != 0 ? looks->last : milliseconds();
     if (now - looks->last < BETWEEN)
         return true;
     looks->last = now;
