@@ -244,8 +244,8 @@ static void none_active(Asked *asked) {
 
 /* ---- Waits ------------------------------------------------------------------------------------- */
 
-/* In a strict run the recorder waits itself if there are requests to be asked meanwhile, other than those whose
- * completion ends the wait. */
+/* In a strict run the recorder waits itself if there are requests to be asked meanwhile, other than those
+ * whose completion ends the wait. */
 static void linger(const Asked *asked, bool is_for_one) {
     MPI_Request active[MOST_ASKED];
     int count = 0, own = is_for_one || asked->named == 1 ? asked->open : 0;

@@ -1,11 +1,11 @@
 /* How a call of a strict run waits. See strict.h.
  *
  * A receive with a wildcard may have got its message although no call completed it. If the run hangs it must
- * be known what it got: else any message that it might have got may be left for others. So while a call waits,
- * the recorder asks all such receives now and then, by MPI_Request_get_status, which completes nothing.
+ * be known what it got: else it isn't known which messages are left for others. So while a call waits, the
+ * recorder asks all such receives now and then, by MPI_Request_get_status, which completes nothing.
  *
- * MPI can't be asked while it waits, so the recorder waits itself, by asking for what the call waits for. Then
- * it makes the call, which returns at once: results, statuses and errors are those of the call.
+ * MPI can't be asked while it waits, so the recorder waits itself, by asking for what the call waits for.
+ * Then it makes the call, which returns at once: results, statuses and errors are those of the call.
  */
 #define _GNU_SOURCE
 #include "strict.h"

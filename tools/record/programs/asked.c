@@ -1,6 +1,6 @@
-/* A correct program whose receives with wildcards are asked in a strict run while a call waits. What became of
- * them is written before a call completes, cancels, frees or starts them again, and once. Nothing differs for
- * the program. It fails with status 1 where a status or an error isn't as it should be. */
+/* A correct program whose receives with wildcards are asked in a strict run while a call waits. What became
+ * of them is written before a call completes, cancels, frees or starts them again, and once. Nothing differs
+ * for the program. It fails with status 1 where a status or an error isn't as it should be. */
 #include <mpi.h>
 #include <stdio.h>
 #include <stdlib.h>

@@ -1,7 +1,7 @@
-/* Each rank has a receive from anybody that got a message, and no call has completed it. Then rank 0 calls what
- * the first word names, and rank 1 sends it a message with tag 4, for which it has no receive yet. If all sends
- * are buffered, the program ends. In a strict run both ranks hang, and for the verdict the recorder has to ask
- * what the two receives got. With `persistent' they are started by MPI_Start. */
+/* Each rank has a receive from anybody that got a message, and no call has completed it. Then rank 0 calls
+ * what the first word names, and rank 1 sends it a message with tag 4, for which it has no receive yet. If
+ * all sends are buffered, the program ends. In a strict run both ranks hang, and for the verdict the recorder
+ * has to ask what the two receives got. With `persistent' they are started by MPI_Start. */
 #include <mpi.h>
 #include <string.h>
 
