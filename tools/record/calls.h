@@ -14,6 +14,7 @@
  *   windows.c         when a recording is cut into windows
  *   strict.c          strict runs
  *   strict_pairs.c    their nonblocking calls that both send and receive
+ *   strict_waits.c    how their calls wait
  */
 #ifndef MPIWAIT_CALLS_H
 #define MPIWAIT_CALLS_H
@@ -71,6 +72,9 @@ bool take_barrier(MPI_Comm *comm);
 
 /* Whether the call is still recorded. */
 bool is_recorded(void);
+
+/* Whether it is, no other thread can complete a request meanwhile, and what is written now stays. */
+bool may_ask(void);
 
 /* Calls MPI. */
 void leave_recorder(void);
@@ -145,6 +149,9 @@ Request *started(MPI_Request *handle, int number);
 
 /* Whether a probe took a message that isn't received yet. */
 bool holds_messages(void);
+
+/* Writes what became of an open request: the message that a wildcard got, or whether it was cancelled. */
+void report_end(Request *request, const MPI_Status *status);
 
 /* A call made a persistent request that isn't recorded. */
 void made_persistent(MPI_Request *handle);

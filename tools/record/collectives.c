@@ -16,6 +16,7 @@ static inline bool is_barrier(const char *word) { return strcmp(word, "barrier")
         if (number != UNNUMBERED) \
             PUT(word, number, root); \
         joins(MADE, number); \
+        strict_ask(); \
         is_barrier(word) ? (void)0 : collective_begins(comm); \
         int result = CALL(Name, (UNPACK args comm)); \
         collective_ends(result); \

@@ -1,5 +1,6 @@
 /* Communicators and their numbers. See calls.h. */
 #define _GNU_SOURCE
+#include "strict.h"
 #include "sums.h"
 
 /* Each rank numbers its communicators by itself; what reads the journals finds which are the same. The number
@@ -155,6 +156,7 @@ void report_communicators(void) {
         if (number != UNNUMBERED) \
             PUT(word, number, ##__VA_ARGS__); \
         uint64_t origin = joins(MADE, number); \
+        strict_ask(); \
         int result = CALL(Name, args); \
         if (is_recorded() && number != UNNUMBERED && result == MPI_SUCCESS) \
             adopt("=comm", *new, origin); \

@@ -1,6 +1,7 @@
 /* Probes, and the messages that they take. See calls.h. */
 #define _GNU_SOURCE
 #include "messages.h"
+#include "strict.h"
 
 /* The messages that MPI_Mprobe took and that no receive has received yet. */
 static struct {
@@ -64,7 +65,9 @@ int MPI_Probe(int source, int tag, MPI_Comm comm, MPI_Status *status) {
     int number = BEGINS ? numbered(comm, unnumbered) : UNNUMBERED;
     if (number != UNNUMBERED)
         PUT("probe", number, sender(source), tag_of_receive(tag));
-    int result = CALL(Probe, (source, tag, comm, number == UNNUMBERED ? status : seen));
+    MPI_Status *place = number == UNNUMBERED ? status : seen;
+    int result = strict_asks() ? OUTSIDE(strict_probe(source, tag, comm, NULL, place))
+                               : CALL(Probe, (source, tag, comm, place));
     report_message(number, source, result, seen);
     return over(result);
 }
@@ -76,7 +79,9 @@ int MPI_Mprobe(int source, int tag, MPI_Comm comm, MPI_Message *message, MPI_Sta
     int taken = number == UNNUMBERED ? 0 : new_number();
     if (taken)
         PUT("mprobe", taken, number, sender(source), tag_of_receive(tag));
-    int result = CALL(Mprobe, (source, tag, comm, message, number == UNNUMBERED ? status : seen));
+    MPI_Status *place = number == UNNUMBERED ? status : seen;
+    int result = strict_asks() ? OUTSIDE(strict_probe(source, tag, comm, message, place))
+                               : CALL(Mprobe, (source, tag, comm, message, place));
     report_message(number, source, result, seen);
     if (is_recorded() && result == MPI_SUCCESS)
         keep_message(*message, taken,

@@ -4,6 +4,7 @@
 
 static Request *places;
 static size_t room, used; /* room is a power of two */
+static int open_requests;
 
 static size_t home(uintptr_t handle) { return ((uint64_t)handle * 0x9e3779b97f4a7c15u >> 20) & (room - 1); }
 
@@ -42,6 +43,7 @@ Request *requests_add(uintptr_t handle) {
         return NULL;
     Request *new = place_of(handle);
     used += new->handle == 0;
+    request_closes(new);
     free(new->template);
     *new = (Request){.handle = handle};
     return new;
@@ -68,6 +70,7 @@ void requests_remove(uintptr_t handle) {
     Request *found = requests_find(handle);
     if (!found)
         return;
+    request_closes(found);
     free(found->template);
     size_t hole = found - places, mask = room - 1;
     for (size_t at = (hole + 1) & mask; places[at].handle != 0; at = (at + 1) & mask) {
@@ -78,4 +81,30 @@ void requests_remove(uintptr_t handle) {
     }
     places[hole] = (Request){0};
     used--;
+}
+
+void request_opens(Request *request) {
+    if (request->open || request->told || !request->number)
+        return;
+    request->open = true;
+    open_requests++;
+}
+
+void request_is_wild(Request *request, bool wild) {
+    request->wild = wild;
+    if (wild)
+        request_opens(request);
+}
+
+void request_closes(Request *request) {
+    open_requests -= request->open;
+    request->open = false;
+}
+
+int requests_open(void) { return open_requests; }
+
+Request *requests_next_open(size_t *place) {
+    while (*place < room && !places[*place].open)
+        ++*place;
+    return *place < room ? &places[(*place)++] : NULL;
 }

@@ -3,6 +3,7 @@
 #define MPIWAIT_REQUESTS_H
 
 #include "journal.h"
+#include <stddef.h>
 #include <stdint.h>
 
 /* The program doesn't see these names. */
@@ -32,6 +33,8 @@ typedef struct {
     bool persistent;
     bool wild;              /* a receive with a wildcard, whose status will be asked for */
     bool cancelled;         /* MPI_Cancel was called for it */
+    bool open;              /* it is wild or cancelled, and what became of it isn't written */
+    bool told;              /* that is written, although no call completed it */
     Template *template;     /* of a persistent one that is recorded */
     uintptr_t comm;         /* the communicator that it makes, if that is known yet */
     const void *place;      /* else the program's variable that will have it */
@@ -50,6 +53,17 @@ void requests_remove(uintptr_t handle);
 
 /* The active ones that have a number, in the order in which they were started; NULL without memory. */
 const Request **requests_active(int *count);
+
+/* Whether it has a wildcard. */
+void request_is_wild(Request *request, bool wild);
+
+/* A request is wild or cancelled; what became of it is written, or it is no longer in use. */
+void request_opens(Request *request);
+void request_closes(Request *request);
+
+/* How many are open, and the next of them in the table, from place 0 on, or NULL. */
+int requests_open(void);
+Request *requests_next_open(size_t *place);
 
 #pragma GCC visibility pop
 

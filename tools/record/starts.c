@@ -109,6 +109,7 @@ int MPI_Cancel(MPI_Request *handle) {
     Request *request = BEGINS_QUIETLY ? requests_find(bits(*handle)) : NULL;
     if (request && request->active && request->number) {
         request->cancelled = true;
+        request_opens(request);
         put_each("cancel", request);
     }
     return over(CALL(Cancel, (handle)));

@@ -122,8 +122,8 @@ static int exchange(Half out, Half in, MPI_Comm comm, MPI_Status *status) {
     if (result != MPI_SUCCESS)
         return result;
     result = BY_COUNT(Issend)(out.data, out.count, out.type, out.rank, out.tag, comm, &sent);
-    int sending = result == MPI_SUCCESS ? REAL(Wait)(&sent, MPI_STATUS_IGNORE) : result;
-    int receiving = REAL(Wait)(&received, status);
+    int sending = result == MPI_SUCCESS ? strict_finish(&sent, MPI_STATUS_IGNORE) : result;
+    int receiving = strict_finish(&received, status);
     if (in.rank == MPI_PROC_NULL)
         set_status_of_nobody(status);
     return receiving == MPI_SUCCESS ? sending : receiving;

@@ -85,6 +85,9 @@ void windows_close(void) { are_cut = false; }
 
 /* ---- Cuts -------------------------------------------------------------------------------------- */
 
+/* A receive of which it isn't written yet what it got is one in the next window. */
+static bool goes_on(const Request *request) { return request->receive.is_there && !request->told; }
+
 /* What isn't known, or can't go on in another window. */
 static bool has_doubts(void) {
     int count;
@@ -92,7 +95,7 @@ static bool has_doubts(void) {
     bool found = !active || in_doubt || !recording || holds_messages();
     for (int i = 0; i < count && !found; i++) {
         const Request *one = active[i];
-        bool is_lost = one->receive.is_there && !is_had(one->receive.comm);
+        bool is_lost = goes_on(one) && !is_had(one->receive.comm);
         found = is_lost || one->cancelled || one->comm || one->place;
     }
     free(active);
@@ -108,9 +111,11 @@ static void put_start(const Request *request) {
     Receive wanted = request->receive;
     if (!wanted.is_there || request->second)
         journal_call("isend", FIELDS(request->number, WORLD, NULL_PEER, 0), request->site);
-    if (wanted.is_there)
+    if (goes_on(request))
         journal_call("irecv", FIELDS(number_of_receive(request), wanted.comm, wanted.source, wanted.tag),
                      request->site);
+    else if (wanted.is_there)
+        journal_call("isend", FIELDS(number_of_receive(request), WORLD, NULL_PEER, 0), request->site);
 }
 
 /* The requests that are active go on in the next window. */
@@ -125,7 +130,7 @@ static void cut(void) {
         return;
     }
     for (int i = 0; i < count; i++)
-        if (active[i]->receive.is_there)
+        if (goes_on(active[i]))
             journal_report("=moved", FIELDS(number_of_receive(active[i])));
     journal_cut();
     report_communicators();
