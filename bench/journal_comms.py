@@ -55,6 +55,7 @@ class Own:
 class Communicators:
     def __init__(self, journals):
         self.journals = journals
+        self.are_cut = all(journal.ends_with_cut for journal in journals)
         self.keys = []  # all of them
         self.places = {}  # of keys in that list
         self.world = self._place("world", -1, 0, range(len(journals)))

@@ -12,7 +12,7 @@ MOST = 2**31 - 1
 WORDS = {
     "J1": "header", "J2": "unknown word", "J3": "number of fields", "J4": "field out of form or range",
     "J5": "line behind the end", "J6": "line too long", "J7": "told line out of place", "J8": "request",
-    "J9": "communicator", "J10": "group",
+    "J9": "communicator", "J10": "group", "J11": "cut",
 }  # fmt: skip
 
 # The fields of each line, one letter each:
@@ -20,7 +20,7 @@ WORDS = {
 # c: a communicator; C: a new one; W: one or more ranks of the world
 # d: a destination, s: a source; t: a tag, u: one of a receive; o: a root; l, k: colour, key; b: bytes
 FORMS = {
-    **dict.fromkeys(("init", "finalize", "abort", "exit", "full"), ""),
+    **dict.fromkeys(("init", "finalize", "abort", "exit", "full", "cut"), ""),
     "send": "cdtb", "isend": "qcdtb", "recv": "csu", "irecv": "qcsu",
     **dict.fromkeys(("ssend", "bsend", "rsend"), "cdt"),
     **dict.fromkeys(("issend", "ibsend", "irsend"), "qcdt"),
@@ -34,7 +34,7 @@ FORMS = {
     "comm_dup": "c", "comm_split": "clk", "comm_make": "c", "comm_idup": "qc", "comm_free": "c",
     "comm_create_group": "W",
     "=got": "dt", "=chose": "R", "=done": "rdt", "=gone": "r", "=kept": "r", "=comm": "CW", "=idup": "CrW",
-    "=none": "", "=apart": "CW", "=failed": "",
+    "=none": "", "=apart": "CW", "=failed": "", "=moved": "r",
 }  # fmt: skip
 LOWEST = {**dict.fromkeys("qmrnR", 1), **dict.fromkeys("cCbW", 0), **dict.fromkeys("dstuolk", -(2**31))}
 NAMES = {"d": {"null"}, "s": {"null", "any"}, "u": {"any"}, "l": {"undefined"}}
@@ -47,9 +47,10 @@ WAITS, MAKERS = {"wait", "test", "waitany", "waitsome"}, {"comm_dup", "comm_spli
 FOLLOW = {
     "=got": {"recv", "sendrecv", "probe", "mprobe"}, "=chose": {"waitany", "waitsome"}, "=idup": WAITS,
     "=comm": MAKERS | {"comm_create_group"}, "=none": MAKERS,
-    "=failed": CALLS - {"finalize", "abort", "exit", "full", "stopped"},
+    "=failed": CALLS - {"finalize", "abort", "exit", "full", "stopped", "cut"},
 }  # fmt: skip
-OUTCOMES = {"=done", "=gone", "=kept"}
+OUTCOMES = {"=done", "=gone", "=kept", "=moved"}
+ENDS = {"finalize", "exit", "cut"}
 
 
 class Fault(Exception):
@@ -119,8 +120,8 @@ def need(is_right, code):
 class Request:
     """A request or a message, from the call line that numbers it on."""
 
-    def __init__(self, word, fields, is_message, wildcards):
-        self.is_message = is_message
+    def __init__(self, word, fields, is_message, wildcards, is_receive):
+        self.is_message, self.is_receive, self.moved_at = is_message, is_receive, None
         self.parent = fields[1] if word == "comm_idup" else None  # of the communicator that it brings
         self.has_wildcard = "any" in wildcards and wildcards[0] != "null"
         self.is_cancelled = self.is_completed = self.has_outcome = self.is_brought = False
@@ -129,8 +130,8 @@ class Request:
 class Checker:
     """Takes the lines of one rank's journal after its header."""
 
-    def __init__(self, rank, ranks):
-        self.rank, self.ranks = str(rank), ranks
+    def __init__(self, rank, ranks, ends_with_cut=False):
+        self.rank, self.ranks, self.ends_with_cut = str(rank), ranks, ends_with_cut
         self.groups = {
             "0": [str(each) for each in range(ranks)],
             "1": [self.rank],
@@ -138,11 +139,14 @@ class Checker:
         self.requests = {}  # messages too
         self.word, self.fields, self.reports = "", [], set()  # of the last call line
         self.completes = []  # what it completes, if it doesn't fail
+        self.number = 1
 
     def take(self, line):
-        """Raises the code of the line's fault."""
+        """Raises the code of the line's fault; or the fault of an earlier line that says of a request that it goes on
+        which now is known to be complete."""
+        self.number += 1
         word, fields = fields_of(line, self.ranks)
-        need(self.word not in ("finalize", "exit"), "J5")
+        need(self.word not in ENDS, "J5")
         if word.startswith("="):
             self._report(word, fields)
         else:
@@ -151,8 +155,8 @@ class Checker:
     # ---- Calls -----------------------------------------------------------------------------------
 
     def _call(self, word, fields, letters):
-        for request in self.completes:
-            self.requests[request].is_completed |= "=failed" not in self.reports
+        if "=failed" not in self.reports:
+            self._complete([self.requests[request] for request in self.completes])
         self.word, self.fields, self.reports, self.completes = word, fields, set(), []
         named = [(letter, field) for letter, field in zip(letters, fields) if letter in "qmrnR"]
         need(all(self._is_right(*pair) for pair in named), "J8")
@@ -162,7 +166,7 @@ class Checker:
         for letter, field in named:
             if letter in "qm":
                 wildcards = fields[2:4] if word == "irecv" else fields[5:7] if field != fields[0] else []
-                self.requests[field] = Request(word, fields, letter == "m", wildcards)
+                self.requests[field] = Request(word, fields, letter == "m", wildcards, bool(wildcards))
         if word == "cancel":
             self.requests[fields[0]].is_cancelled = True
         elif (
@@ -173,6 +177,13 @@ class Checker:
             self.completes = fields
         elif word == "imrecv":
             self.completes = fields[1:]
+
+    def _complete(self, requests):
+        for request in requests:
+            request.is_completed = True
+        moved = [request.moved_at for request in requests if request.moved_at]
+        if moved:
+            raise Fault(min(moved), "J7")
 
     def _is_right(self, letter, field):
         known = self.requests.get(field)
@@ -199,6 +210,7 @@ class Checker:
             self._new_communicator(word, fields, known)
         for _, request in known:
             request.has_outcome |= word in OUTCOMES
+            request.moved_at = self.number if word == "=moved" else request.moved_at
             request.is_brought |= word == "=idup"
         if word in FOLLOW and word != "=idup":
             self.reports.add(word)
@@ -208,7 +220,7 @@ class Checker:
     def _can_have(self, word, fields):
         """Whether the last call can have this line."""
         if word not in FOLLOW:
-            return True
+            return word != "=moved" or self.ends_with_cut
         if word == "=comm" and self.word == "comm_split" and self.fields[1] == "undefined":
             return False
         once = self.reports & ({"=comm", "=none"} if word in ("=comm", "=none") else {word})
@@ -217,11 +229,13 @@ class Checker:
 
     def _fits(self, word, field, request):
         """Whether the line can say this of a request; of a call that failed nothing was completed."""
+        is_back = field in self.completes and "=failed" not in self.reports
         if word == "=chose":
             return field in self.fields
         if word == "=idup":
-            is_back = field in self.completes and "=failed" not in self.reports
             return request.parent is not None and is_back and not request.is_brought
+        if word == "=moved":
+            return request.is_receive and not request.is_completed and not request.has_outcome
         return (request.has_wildcard if word == "=done" else request.is_cancelled) and not request.has_outcome
 
     def _new_communicator(self, word, fields, known):
@@ -240,9 +254,16 @@ class Checker:
         self.groups[fields[0]] = group
 
 
+def ends_with_cut(lines, ranks):
+    try:
+        return len(lines) > 1 and fields_of(lines[-1], ranks)[0] == "cut"
+    except ValueError:
+        return False
+
+
 def check(lines, rank, ranks):
     """Takes the lines of a journal after its header. Raises its first fault."""
-    checker = Checker(rank, ranks)
+    checker = Checker(rank, ranks, ends_with_cut(lines, ranks))
     for number, line in enumerate(lines[1:], 2):
         try:
             checker.take(line)

@@ -4,10 +4,10 @@
     journals.py judge [--as-closed] [--json] [--eager N] [--tests wait|pass] [--calls strict|went] FOLDER
     journals.py close [--tests wait|pass] [--calls strict|went] FOLDER OUT
 
-It is no part of the product and shares nothing with it but bench/journal_faults.py, which knows the form of
-journals. It makes the head and the traces rule by rule, in memory and without haste, and judges them by
-bench/wait_graph.py. With --as-closed it has what `close' makes checked by the program that the variable MPIWAIT
-names, else by the repository's `mpiwait'.
+It is no part of the product and shares nothing with it. bench/journal_faults.py knows the form of journals, and
+bench/journal_cuts.py whether those that end with `cut' are cut where nothing is under way. It makes the head and the
+traces rule by rule, in memory and without haste, and judges them by bench/wait_graph.py. With --as-closed it has what
+`close' makes checked by the program that the variable MPIWAIT names, else by the repository's `mpiwait'.
 
 An entry is a call line with the lines after it that begin with `='. Each gives some lines of the trace, or
 ends the trace by `open' for a reason. What `judge' knows besides: a receive that nobody knows the message of is a
@@ -23,6 +23,7 @@ import subprocess
 import sys
 import tempfile
 from dataclasses import dataclass, field
+from functools import cache
 from pathlib import Path
 
 HERE = Path(__file__).resolve().parent
@@ -37,6 +38,7 @@ from journal_comms import (  # noqa: E402
     Communicators,
     spelled,
 )
+from journal_cuts import first_unclean  # noqa: E402
 from journal_faults import Fault, check, header_of, lines_of  # noqa: E402
 from wait_graph import Message, Pending, Waits  # noqa: E402
 
@@ -44,7 +46,7 @@ MOST_LINES = 1_000_000  # of a trace
 MOST_REQUESTS = 64  # of a wait
 
 ALWAYS_BACK = {"test", "iprobe", "improbe"}
-OF_OTHER_CALLS = {"=done", "=gone", "=kept", "=apart"}
+OF_OTHER_CALLS = {"=done", "=gone", "=kept", "=moved", "=apart"}
 
 
 class Named(Exception):
@@ -79,6 +81,8 @@ class Journal:
         self.done = {fields[0]: fields[1:] for _, word, *fields in reports if word == "=done"}
         self.gone = {fields[0] for _, word, *fields in reports if word == "=gone"}
         self.kept = {fields[0] for _, word, *fields in reports if word == "=kept"}
+        self.moved = {fields[0] for _, word, *fields in reports if word == "=moved"}
+        self.ends_with_cut = self.entries[-1].word == "cut"
         self.freed = {entry.fields[0] for entry in self.entries if entry.word == "request_free"}
         starts = [entry for entry in self.entries if entry.word in STARTED_SENDS or entry.word == "isendrecv"]
         self.sends = {entry.fields[0] for entry in starts}
@@ -166,6 +170,7 @@ class List:
         self.sinks = {}  # messages by request
         self.pending = None
         self.starts = {}  # the request, of the journal, that a place of the trace starts
+        self.moved = {}  # what a receive that goes on in the next window may take, by its place
         self.same = {}  # the message that a request of `imrecv' stands for
         self.active = {}  # numbers by request
         self.free, self.most = [], 0
@@ -188,11 +193,13 @@ class List:
             self.line = entry.line
             if entry.word in ENDS:
                 raise Left(ENDS[entry.word])
-            if entry.word in ("finalize", "exit"):
+            if entry.word in ("finalize", "exit") or entry.word == "cut" and self.communicators.are_cut:
                 self.wait_for(self.late)
                 return "finalize"
             if entry.reported("=failed") is not None:
                 raise Left("failed")
+            if entry.word == "cut":
+                raise Left("cut")
             if entry.word in ENTRIES:
                 ENTRIES[entry.word](self, entry)
         return "open"
@@ -252,8 +259,9 @@ class List:
         self.active[request] = heapq.heappop(self.free)
 
     def standing(self, requests):
-        """Of some requests those that weren't cancelled, each by what is in the trace for it."""
-        return [self.same.get(request, request) for request in requests if request not in self.journal.gone]
+        """Of some requests those that weren't cancelled or moved, each by what is in the trace for it."""
+        left = self.journal.gone | self.journal.moved
+        return [self.same.get(request, request) for request in requests if request not in left]
 
     def wait_for(self, requests):
         for first in range(0, len(requests), MOST_REQUESTS):
@@ -340,9 +348,14 @@ class List:
     def irecv(self, entry):
         request, comm, source, tag = entry.fields
         message = self.message(comm, source, tag, self.journal.done.get(request))
-        self.start_receive(request, self.numbered(comm), message)
+        self.start_receive(request, self.numbered(comm), message, (source, tag))
 
-    def start_receive(self, request, number, message):
+    def start_receive(self, request, number, message, wanted):
+        """It goes on in the next window, or is `wanted' with the message in the place of wildcards."""
+        if request in self.journal.moved:
+            self.moved[len(self.lines)] = (number, *wanted)
+            self.start("irecv", request, number, "null", 0)
+            return
         is_untold = "any" in message and request not in self.journal.gone
         if is_untold and not self.has_sinks:
             raise Left("never told")
@@ -384,7 +397,7 @@ class List:
         message = self.message(comm, source, other, self.journal.done.get(received))
         number = self.numbered(comm)
         self.start("isend", sent, number, peer, tag, *size)
-        self.start_receive(received, number, message)
+        self.start_receive(received, number, message, (source, other))
 
     def probe(self, entry):
         *request, comm, source, tag = entry.fields
@@ -506,10 +519,22 @@ ENTRIES = {
 
 
 class Recording:
-    def __init__(self, words):
-        self.journals = journals_in(words.folder)
-        self.communicators = Communicators(self.journals)
+    def __init__(self, words, known=None):
+        """`known' is another one of the same journals, if there is one."""
+        self.journals = known.journals if known else journals_in(words.folder)
+        self.communicators = known.communicators if known else Communicators(self.journals)
+        if self.communicators.are_cut and not known:
+            self.look_for_unclean()
         self.lists = [List(one, self.communicators, words) for one in self.journals]
+        self._waits = {}  # by the limit
+
+    def look_for_unclean(self):
+        groups = [self.communicators.group(key) for key in self.communicators.numbered]
+        strict = words_of(["judge", "FOLDER"])
+        unclean = first_unclean([List(one, self.communicators, strict) for one in self.journals], groups)
+        if unclean:
+            rank, line = unclean
+            raise Named(f"refused rank {rank} {Fault(line, 'J11')}", 2)
 
     def write(self, out):
         try:
@@ -527,18 +552,20 @@ class Recording:
         """The status and the report."""
         status, report = self.checked(words) if words.as_closed else self.judged(words)
         kept = (
-            [] if words.calls == "went" else [one for one in report["findings"] if not self.is_of_freed(one)]
+            [] if words.calls == "went" else [one for one in report["findings"] if not self.is_left_out(one)]
         )
         return status, report | {"findings": kept, "left": self.left()}
 
     def waits(self, eager):
-        return Waits(
-            [self.communicators.group(key) for key in self.communicators.numbered],
-            [one.lines for one in self.lists],
-            [one.pending for one in self.lists],
-            [one.messages_of_sinks() for one in self.lists],
-            None if eager is None else int(eager),
-        )
+        if eager not in self._waits:
+            self._waits[eager] = Waits(
+                [self.communicators.group(key) for key in self.communicators.numbered],
+                [one.lines for one in self.lists],
+                [one.pending for one in self.lists],
+                [one.messages_of_sinks() for one in self.lists],
+                None if eager is None else int(eager),
+            )
+        return self._waits[eager]
 
     def judged(self, words):
         report = self.waits(words.eager).report()
@@ -560,16 +587,23 @@ class Recording:
             raise Named((said.stdout + said.stderr).rstrip("\n"), said.returncode)
         return said.returncode, json.loads(said.stdout)
 
+    def report_with_lines(self, words):
+        """The same with the places that it names, as for --json."""
+        status, report = self.report(words)
+        return status, report | {"lines": self.lines(report)}
+
     def left(self):
         return [[rank, *left] for rank, one in enumerate(self.lists) for left in one.left]
 
-    def is_of_freed(self, finding):
-        """Whether it is one `request R I Q' whose request the program freed."""
+    def is_left_out(self, finding):
+        """Whether it is one `request R I Q' whose request the program freed, or that goes on in a window."""
         kind, *numbers = finding.split(" ")
         if kind != "request":
             return False
         rank, place = map(int, numbers[:2])
         one = self.lists[rank]
+        if one.journal.ends_with_cut:
+            return True
         freed = {one.same.get(request, request) for request in one.journal.freed}
         return one.starts.get(place) in freed
 
@@ -632,10 +666,8 @@ def write(path, text):
 
 
 def judge(words):
-    recording = Recording(words)
-    status, report = recording.report(words)
+    status, report = Recording(words).report_with_lines(words)
     if words.json:
-        report["lines"] = recording.lines(report)
         print(json.dumps(report, sort_keys=True, separators=(",", ":")))
     else:
         print("".join(line + "\n" for line in text_of(report)), end="")
@@ -675,7 +707,8 @@ class Words(argparse.ArgumentParser):
         sys.exit(3)
 
 
-def words_of(argv):
+@cache
+def parser_of_words():
     parser = Words(description="What a run's journals stand for, by definition.")
     commands = parser.add_subparsers(dest="command", required=True)
     for command in (judge, close):
@@ -690,7 +723,11 @@ def words_of(argv):
         sub.add_argument("folder", metavar="FOLDER")
         if command is close:
             sub.add_argument("out", metavar="OUT")
-    return parser.parse_args(argv)
+    return parser
+
+
+def words_of(argv):
+    return parser_of_words().parse_args(argv)
 
 
 def main():

@@ -91,7 +91,7 @@ RIGHT = [
 WORDS = {
     "J1": "header", "J2": "unknown word", "J3": "number of fields", "J4": "field out of form or range",
     "J5": "line behind the end", "J6": "line too long", "J7": "told line out of place", "J8": "request",
-    "J9": "communicator", "J10": "group",
+    "J9": "communicator", "J10": "group", "J11": "cut",
 }  # fmt: skip
 HEADERS = [
     "", "journal 1 0 1 x i y\n", "journal 2 0 0 x i y\n", "journal 2 0 1025 x i y\n",

@@ -37,7 +37,7 @@ class Limits(Folders):
             "companions.run.Judge", return_value=mock.Mock(ask=lambda folder, eager: ask(folder, eager))
         ):
             with mock.patch("builtins.print"):
-                free = run.try_limits(run.Run(self.folder / "journal"))
+                free = run.try_limits(run.kept_runs(self.folder / "journal"))
         self.assertEqual(min(free), 77)
         self.assertLessEqual(len(asked), 11)
 

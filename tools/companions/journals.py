@@ -7,6 +7,7 @@ import mmap
 import os
 import re
 from collections import namedtuple
+from contextlib import suppress
 from pathlib import Path
 
 BLOCK, TAIL = 1 << 20, 1 << 16  # bytes that are read at once: of lines by number, and of the last calls
@@ -32,7 +33,8 @@ BEFORE |= dict.fromkeys(["irecv", "mprobe", "improbe", "comm_idup"], 1)
 # The bytes of a standard send are its last field; three come before them, after those that differ.
 STANDARD_SEND = rb"\n(?:r?send|ir?send \d+|sendrecv \d+ \S+|isendrecv \d+ \d+ \d+ \S+)"
 SIZE = re.compile(STANDARD_SEND + rb"(?: \S+){3} (\d+)(?= @|\n)")
-NAMES = {"exit": "the end of the process", "comm_make": "a call that makes communicators", "full": "a call"}
+NAMES = {"exit": "the end of the process", "cut": "the end of the window",
+         "comm_make": "a call that makes communicators", "full": "a call"}
 
 
 def mapped(path):
@@ -67,10 +69,31 @@ class Header:
         self.polls = (POLLS[call], site, count) if 0 < call < len(POLLS) and count else None
 
 
+def windows_in(folder):
+    """The numbers of the windows that are there; they have folders of their own in that of the run."""
+    with suppress(FileNotFoundError), os.scandir(folder) as found:
+        return sorted(int(one.name) for one in found if one.name.isdecimal() and one.is_dir())
+    return []
+
+
+def top_of(folder):
+    """The folder of the run, also of a window."""
+    return folder.parent if folder.name.isdecimal() else folder
+
+
+def is_closed(folder):
+    """Whether all ranks came to the end of a window."""
+    try:
+        journals = journals_in(folder)
+    except FileNotFoundError:
+        return False
+    return bool(journals) and all(one.last and one.last.word == "cut" for one in journals)
+
+
 class Journal:
     def __init__(self, folder, rank, run=None):
-        self.folder, self.rank, self.run, self.names = Path(folder), rank, run, {}
-        self.data, self.end = mapped(self.folder / f"journal{rank}")
+        self.folder, self.rank, self.run, self.names = top_of(Path(folder)), rank, run, {}
+        self.data, self.end = mapped(Path(folder) / f"journal{rank}")
         found = HEADER.fullmatch(self.data[: max(self.data.find(b"\n", 0, self.end), 0)])
         self.header = Header(found) if found else None
         self.last = self._call_at(self.end - 1)
@@ -90,6 +113,11 @@ class Journal:
             if first <= number < first + lines:
                 found[number] = Call(self.run, self.rank, texts[number - first].decode("latin-1"), number)
         return found
+
+    def count(self):
+        """How many calls it has."""
+        text = self.data[: self.end]
+        return max(0, text.count(b"\n") - text.count(b"\n=") - 2) if text else 0
 
     def sizes(self):
         """The bytes of its standard sends."""
@@ -158,7 +186,12 @@ def journals_in(folder, run=None):
     ranks = [int(name[7:]) for name in os.listdir(folder) if re.fullmatch(r"journal\d{1,4}", name)]
     journals = {rank: Journal(folder, rank, run) for rank in sorted(ranks)}
     count = next((one.header.ranks for one in journals.values() if one.header), 0)
-    return [journals.get(rank) or Journal(folder, rank, run) for rank in range(max([count - 1, *ranks]) + 1)]
+    all_ranks = range(max([count - 1, *ranks]) + 1)
+    journals = [journals.get(rank) or Journal(folder, rank, run) for rank in all_ranks]
+    if all(one.last and one.last.word == "cut" for one in journals):
+        for one in journals:
+            one.has_ended = True
+    return journals
 
 
 def name_of(word, fields=()):

@@ -10,6 +10,7 @@ from pathlib import Path
 from urllib.parse import quote
 
 from .causes import alike_key, need_words, stuck_lines
+from .journals import windows_in
 from .script import Status, Stopped, drop_output, grouped, ranks_named, why_of, worst
 
 RED, MOST_ARROWS = "#c0392b", 200
@@ -32,13 +33,15 @@ def as_json(story):
     polls = [(one.rank, *one.polls) for one in run.journals if one.polls]
     return json.dumps({
         "status": int(story.status), "title": story.title, "strict": run.is_strict,
-        "verdict": None if run.count("P") else story.verdict, "verdicts": story.verdicts(),
+        "verdict": None if run.count("P") or story.misses_windows() else story.verdict,
+        "verdicts": story.verdicts(),
         "ranks": [call_json(one.call) | {
             "held": one.rank in shown.held, "message": one.call.message(),
             "waits": [{"rank": rank, "call": call and call_json(call)} for rank, call in one.needs],
             "messages": one.messages() if one.is_pending else [], "senders": one.senders,
             "started": [call_json(start) for start in one.starts]} for one in story.stuck],
         "causes": shown.report["causes"] if shown else [],
+        "windows": story.windows and story.windows.counts(),
         "polls": [{"rank": rank, "mpi": name, "where": run.places.where(rank, site), "count": count}
                   for rank, name, site, count in polls],
         "left": (story.strict or shown).report["left"] if shown else [],
@@ -225,7 +228,7 @@ def write_outputs(stories, files):
 
 def report(stories, files):
     """Prints the reports and writes what else is asked for. Answers the status of all."""
-    titles = [f"Run {place} of {len(stories)}" for place in range(1, len(stories) + 1)]
+    titles = [one.heading or f"Run {place} of {len(stories)}" for place, one in enumerate(stories, 1)]
     texts = [f"{title}\n{'=' * len(title)}\n{one.text}" for title, one in zip(titles, stories)]
     try:
         print("\n".join(texts) if len(stories) > 1 else stories[0].text, end="", flush=True)
@@ -240,4 +243,4 @@ def report(stories, files):
 def runs_in(folder):
     """The folders with journals: the folder of the first run and those of others in it, as they began."""
     others = sorted(Path(folder).glob("run-*"), key=lambda one: one.stat().st_mtime_ns)
-    return [one for one in [Path(folder), *others] if any(one.glob("journal[0-9]*"))]
+    return [one for one in [Path(folder), *others] if any(one.glob("journal[0-9]*")) or windows_in(one)]

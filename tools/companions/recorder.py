@@ -105,13 +105,15 @@ def for_open_mpi(command, names, environment):
     return [one for word in command for one in [word, *(more if LAUNCHER.fullmatch(word) else [])]]
 
 
-def with_recorder(command, library, journals, frames=1, is_strict=False):
+def with_recorder(command, library, journals, frames=1, is_strict=False, window=0):
     """The command and the environment that have its ranks recorded."""
     recorder, environment = make_recorder(library), dict(os.environ)
     own = {"LD_PRELOAD": ":".join(filter(None, [environment.get("LD_PRELOAD"), recorder])),
            "MPIWAIT_JOURNAL": str(journals), "MPIWAIT_FRAMES": str(frames)}  # fmt: skip
     own |= {"MPIWAIT_STRICT": "1"} if is_strict else {}
-    environment.pop("MPIWAIT_STRICT", None)
+    own |= {"MPIWAIT_WINDOW": str(window)} if window else {}
+    for name in ("MPIWAIT_STRICT", "MPIWAIT_WINDOW"):
+        environment.pop(name, None)
     command = after_others(command, recorder, list(own))
     if library == "openmpi":
         command = for_open_mpi(command, list(own), environment)

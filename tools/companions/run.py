@@ -10,10 +10,10 @@ from pathlib import Path
 
 from .outputs import OUTPUTS, report, runs_in
 from .recorder import library_of, with_recorder
-from .runs import MOST_BYTES, VERDICTS, Judge, Run
-from .script import HERE, Status, Stopped, Words, say
-from .story import Story
+from .runs import MOST_BYTES, VERDICTS, Judge
+from .script import HERE, Status, Stopped, Words, plural, say
 from .watching import Alarm, run_command
+from .windows import Judging, Windows, kept_runs, stories_of
 
 TEXT = """Records a run of an MPI program, judges it, and reports which calls wait, with lines of code.
 
@@ -22,10 +22,13 @@ TEXT = """Records a run of an MPI program, judges it, and reports which calls wa
 
 The status is 0 free, 1 hang, 2 refused, 3 words or installation, 4 nothing could be judged, 5 unfinished,
 6 not judged, 7 calls or roots of one collective differ, 8 the program failed. MPIWAIT names a checker."""
+# The lines of a window, by default and at most; a journal has 1,000,000 calls. With 0 there are no windows.
+LINES, MOST_LINES = 200_000, 800_000
 LIMITS = """Finds the least N of --eager N at which a recorded run can't hang. FOLDER is that of tools/run.
 
 It judges by 0 and by sizes of standard sends, since between two of these no verdict changes: by halves, or
-all if ranks were cut off. The status is 0 if some limit is free, else 1; 2, 3 and 4 are as for tools/run."""
+all if ranks were cut off. The status is 0 if some limit is free, else 1; 2, 3 and 4 are as for tools/run.
+Of a run's windows it judges those that are kept: 6 if others weren't judged strictly with that limit."""
 
 
 def words_of(argv):
@@ -41,6 +44,8 @@ def words_of(argv):
     add("--mpi", choices=("mpich", "openmpi"), help="the MPI library, if the command doesn't show it")
     add("--strict", action="store_true", help="pass standard sends on as synchronous ones")
     add("--eager", metavar="N", type=int, help="sends of at most N bytes are buffered")
+    add("--window", metavar="N", type=int, help=f"judge parts of N lines meanwhile ({LINES}; 0: none)")
+    add("--keep", action="store_true", help="keep parts that are free too")
     for name, (*_, text) in OUTPUTS.items():
         add(f"--{name}", metavar="FILE", type=Path, help=f"write {text} to FILE")
     add("command", nargs="...", metavar="COMMAND", help="what runs the program")
@@ -52,11 +57,18 @@ def words_of(argv):
         parser.error("--for and --quiet take a number of seconds above 0")
     if not 0 <= (words.eager or 0) <= MOST_BYTES:
         parser.error(f"--eager takes a number of bytes up to {MOST_BYTES}")
+    if not 0 <= (words.window or 0) <= MOST_LINES:
+        parser.error(f"--window takes a number of lines up to {MOST_LINES}")
+    if words.window and words.unproved:
+        parser.error("--window doesn't go with --unproved")
+    if words.window is None:
+        words.window = 0 if words.unproved or words.again else LINES
     if not words.again and not words.command:
         parser.error("which run? As in: tools/run mpirun -n 4 ./program; --help says more")
     given = [words.command, words.limit, words.frames is not None, words.mpi, words.strict, words.stop]
-    if words.again and any(given):
-        parser.error("--again runs nothing: it takes no command, --for, --frames, --mpi, --strict or --stop")
+    if words.again and any([*given, words.window]):
+        parser.error("--again runs nothing: it takes no command, --for, --frames, --mpi, --strict, --stop, "
+                     "--window")  # fmt: skip
     return words
 
 
@@ -89,18 +101,22 @@ def make_folder(folder):
 
 
 def main(argv):
-    words, began, status = words_of(argv), time.monotonic(), 0
+    words, began, status, found = words_of(argv), time.monotonic(), 0, {}
     folder, program = Path(os.path.abspath(words.folder)), HERE.parent.parent / "crates/mpiwait/out/mpiwait"
     if words.unproved and not os.access(program, os.X_OK) and not shutil.which("rt"):
         raise Stopped("there is no command rt of the Rattle kit, which builds the checker", Status.WORDS)
     if not words.again:
         library, frames = words.mpi or library_of(words.command), 1 if words.frames is None else words.frames
-        run = with_recorder(words.command, library, folder / "journal", frames, words.strict)
+        run = with_recorder(words.command, library, folder / "journal", frames, words.strict, words.window)
         if not words.unproved:
-            Judge().try_out()
+            Judge().try_out(words.window)
         make_folder(folder)
         alarm = Alarm(folder / "journal", Judge(nice=10), words.quiet, words.stop)
-        status, was_ended = run_command(*run, words.limit, None if words.unproved else alarm.look)
+        judging = Judging(folder / "journal", Judge(nice=10), words.keep, words.eager)
+        judging.thread.start() if words.window else None
+        looks = [] if words.unproved else [judging.look, alarm.look]
+        status, was_ended = run_command(*run, words.limit, lambda: any([look() for look in looks]))
+        found = judging.end() if words.window else {}
         if status and not was_ended:
             say(f"the run ended with status {status}")
         status = 0 if was_ended else status
@@ -115,15 +131,19 @@ def main(argv):
     judge, name = Judge(words.unproved), shlex.join(words.command) or str(folder)
     more = {"eager": words.eager, "is_short": words.unproved, "program_status": status}
     more |= {"name": name, "seconds": time.monotonic() - began}
-    return report([Story(one, judge, **more) for one in runs], words.files)
+    stories = [story for one in runs for story in stories_of(one, judge, found.get(one), **more)]
+    return report(stories, words.files)
 
 
-def try_limits(run):
-    """Judges a run with some limits, and prints each verdict. Answers the limits that are free."""
-    sizes, judge, free = sorted({0}.union(*(one.sizes() for one in run.journals))), Judge(), []
+def try_limits(runs):
+    """Judges a run, or its windows, with limits, and prints each verdict. Answers those that are free."""
+    journals, judge, free = [one for run in runs for one in run.journals], Judge(), []
+    sizes = sorted({0}.union(*(one.sizes() for one in journals)))
+    has_ended = all(run.has_ended for run in runs)
 
     def is_free(limit):
-        answer = judge.ask(run.folder, eager=limit)
+        answers = [judge.ask(run.folder, eager=limit) for run in runs]
+        answer = next((one for one in answers if one.status != Status.FREE), answers[-1])
         if answer.report is None:
             print(answer.said, flush=True)
             raise Stopped("this run can't be judged", answer.status)
@@ -132,9 +152,9 @@ def try_limits(run):
         return answer.status == Status.FREE
 
     print("limit   verdict")
-    if not is_free(None) and run.has_ended:  # the limits at which the run is free are the last ones
+    if not is_free(None) and has_ended:  # the limits at which the run is free are the last ones
         bisect.bisect_left(sizes, True, key=is_free)
-    elif not run.has_ended:
+    elif not has_ended:
         list(map(is_free, sizes))
     return free
 
@@ -146,9 +166,15 @@ def limits_main(argv):
     folder = folder / "journal" if (folder / "journal").is_dir() else folder
     if folder not in runs_in(folder):
         raise Stopped(f"{folder} has no journals", Status.WORDS)
-    free = try_limits(Run(folder))
-    if not free or None in free:
+    free = try_limits(kept_runs(folder))
+    least = None if not free or None in free else min(free)
+    unjudged = Windows(folder, None, eager=least).unjudged() if free else 0
+    if unjudged:
+        print(f"{plural(unjudged, 'window')} that {'is' if unjudged == 1 else 'are'} gone may hang: "
+              "tools/run --keep keeps all")  # fmt: skip
+        return Status.NOT_JUDGED
+    if least is None:
         print("the verdict is free without a limit" if free else "no limit has the verdict free")
     else:
-        print(f"the least limit with the verdict free is {min(free)}")
+        print(f"the least limit with the verdict free is {least}")
     return Status.FREE if free else Status.HANG

@@ -9,7 +9,7 @@ from collections import Counter, namedtuple
 from functools import lru_cache
 from pathlib import Path
 
-from .journals import RECEIVES, STANDARD, Call, journals_in, written
+from .journals import RECEIVES, STANDARD, Call, journals_in, top_of, written
 from .places import Places, printable
 from .script import HERE, Status, Stopped, worst
 
@@ -23,8 +23,9 @@ MATCHED = {"mprobe", "improbe"}  # they take messages, for which other requests 
 class Run:
     def __init__(self, folder):
         self.folder, self.journals = Path(folder), journals_in(folder, self)
+        self.top, self.windows = top_of(self.folder), None  # those before it, of a run's last one
         self.ranks, self.places = range(len(self.journals)), Places(self.journals)
-        self.unrecorded = Counter(written(self.folder / "unrecorded"))
+        self.unrecorded = Counter(written(self.top / "unrecorded"))
         self.has_ended = all(journal.has_ended for journal in self.journals)
         # Whether the recorded ranks were strict; None if only some of them were.
         strict = {journal.header.is_strict for journal in self.journals if journal.header}
@@ -32,8 +33,11 @@ class Run:
         # What was only counted: by meaning, what, how often by rank.
         self.left_out = {"P": {}, "W": {}, "N": {}}
         for rank in self.ranks:
-            for meaning, count, call in (line.split(" ", 2) for line in written(self.folder / f"left{rank}")):
+            for meaning, count, call in (line.split(" ", 2) for line in written(self.top / f"left{rank}")):
                 self.left_out[meaning].setdefault(call, {})[rank] = int(count)
+        # Why the recording wasn't cut into windows, if it was to be.
+        self.uncut = [(call, self.left_out["N"].pop(call)) for call in list(self.left_out["N"])
+                      if call.startswith(("moments without a cut", "no windows"))]  # fmt: skip
         self.made, self._calls = lru_cache(None)(self._made), {}
 
     def count(self, meaning):
@@ -190,13 +194,16 @@ class Judge:
         more = {"stdin": subprocess.DEVNULL, "capture_output": True, "text": True, "errors": "replace"}
         return subprocess.run(command, cwd=folder, check=False, **more)
 
-    def try_out(self):
+    def try_out(self, has_windows=False):
         """Judges a run of one rank that makes no call. It may have to be built for that."""
-        with tempfile.TemporaryDirectory() as folder:
-            Path(folder, "journal0").write_bytes(b"journal 2 0 1 a-run o a-library\nfinalize\n")
-            answer = self.ask(folder)
-        if answer.status != Status.FREE:
-            raise Stopped(f"the checker {self.path} can't be run: {answer.said}")
+        for end in ("finalize", "cut") if has_windows else ("finalize",):
+            with tempfile.TemporaryDirectory() as folder:
+                Path(folder, "journal0").write_text(f"journal 2 0 1 a-run o a-library\n{end}\n")
+                answer = self.ask(folder)
+            if answer.status != Status.FREE and end == "cut":
+                raise Stopped(f"the checker {self.path} knows no windows: give --window 0", Status.WORDS)
+            if answer.status != Status.FREE:
+                raise Stopped(f"the checker {self.path} can't be run: {answer.said}")
 
     def ask(self, folder, **options):
         """Judges the journals of a folder. It is named from there, since the program takes UTF-8 alone."""
@@ -220,6 +227,7 @@ class Judgement:
 
     def __init__(self, judge, run, eager=None, is_short=False, program_status=0):
         self.judge, self.run, self.eager, self.is_short = judge, run, eager, is_short
+        self.windows = run.windows
         self.answers, self.views = {}, {}
         if not run.has_ended:
             self._ask("went", calls="went")
@@ -254,11 +262,15 @@ class Judgement:
     def verdicts(self):
         return {name: VERDICTS.get(answer.status) for name, answer in self.answers.items()}
 
+    def misses_windows(self):
+        """Whether a window wasn't judged that might hang, as far as is known."""
+        return bool(self.windows and self.windows.unjudged() and self.verdict != "hang")
+
     def _status(self, program_status):
         """The status of the run, of all that was found of it."""
         found = [Status[self.verdict.upper()] if self.shown else self.main.status]
         if self.shown:
-            found = [Status.NOT_JUDGED] if self.run.count("P") else found
+            found = [Status.NOT_JUDGED] if self.run.count("P") or self.misses_windows() else found
             kinds = {text.split(" ")[0] for text in (self.strict or self.shown).report["findings"]}
             found += [Status.DIFFERENT] if kinds & {"kind", "root"} else []
             found += [Status.IMPOSSIBLE] if set(self.unanswered) - {"buffered"} else []

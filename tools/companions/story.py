@@ -27,6 +27,8 @@ UNFORCED = ("{} on waits for nonblocking collectives ({}). A strict run can't fo
 THREADS = ("With MPI_THREAD_MULTIPLE another thread of a rank may call MPI while one waits: nothing is known "
            "of a call that wasn't made when the recording ended.")  # fmt: skip
 UNRECORDED = "Processes that weren't recorded, and of which no verdict speaks"
+UNCUT = "Why the recording wasn't cut where it could have been"
+NO_MEETING = "no rank called a barrier, or an allreduce, allgather or alltoall of data, of all ranks"
 UNTIL_TESTS = "It hangs only if nothing else is done until a test succeeds"
 MANY = "made more than 1,000,000 calls"
 WHYS = {
@@ -43,9 +45,11 @@ TIMES = "\0"  # how often ranks asked
 
 class Story(Judgement):
     """A run that was judged, and what is said of it."""
-    def __init__(self, folder, judge, name="a run", seconds=0.0, **more):
-        super().__init__(judge, Run(folder), **more)
-        self.name, self.seconds = name, seconds
+    def __init__(self, folder, judge, name="a run", seconds=0.0, heading="", **more):
+        run = Run(folder)
+        run.windows = more.pop("windows", None)
+        super().__init__(judge, run, **more)
+        self.name, self.seconds, self.heading = name, seconds, heading
         self.stuck = list(self.shown.stuck.values()) if self.shown else []
         # The places of all calls that are named are looked up at once.
         stuck = [one for view in self.views.values() for one in view.stuck.values()]
@@ -64,7 +68,10 @@ class Story(Judgement):
         words, doubts = getattr(self, f"_{self.verdict}")(), self.run.count("P")
         calls = plural(doubts, "call that wasn't", "calls that weren't")
         doubted = f"not judged: recorded calls may match {calls} recorded (without these: {words})"
-        return doubted if doubts else f"verdict {words}"
+        if self.misses_windows() and not doubts:
+            missing = plural(self.windows.unjudged(), "earlier window wasn't", "earlier windows weren't")
+            doubted = f"not judged: {missing} (without these: {words})"
+        return doubted if doubts or self.misses_windows() else f"verdict {words}"
 
     def _refused(self, said):
         """With the line of code of the line that is refused, which may have any form."""
@@ -102,11 +109,23 @@ class Story(Judgement):
                      "Calls at which the judgement of a rank ends": self._stops(True),
                      "Receives of which it isn't known what they took": self._stops(False),
                      "Unanswered questions": [": ".join(one) for one in self.unanswered.items()]}  # fmt: skip
+        found["Windows"] = list(self.windows.lines()) if self.windows else []
+        found[UNCUT] = list(self._uncut())
         for meaning, title in MEANINGS.items():
             calls = sorted(self.run.left_out[meaning].items(), key=lambda one: -sum(one[1].values()))
             found[title] = [f"{sum(ranks.values()):,} {call} ({ranks_named(ranks)})" for call, ranks in calls]
         found[UNRECORDED] = [f"{plural(count, 'process', 'processes')}: {why}" for why, count in counts]
         yield from ((title, shortened(lines, 24)) for title, lines in found.items() if lines)
+
+    def _uncut(self):
+        """Why there was no window: if one was due, or would have been."""
+        is_full = any(one.last and one.last.word == "full" for one in self.run.journals)
+        for call, ranks in self.run.uncut:
+            if call.startswith("moments"):
+                yield f"{call}: {plural(max(ranks.values()), 'time')}"
+            elif is_full:
+                yield call
+        yield from [NO_MEETING] if is_full and self.windows and not self.run.uncut else []
 
     def _causes(self):
         went, rules = self.went, self.rules
@@ -156,7 +175,8 @@ class Story(Judgement):
 
     def _where(self):
         """A line for all ranks of which the same is said but for how often they asked."""
-        cut = [one.rank for one in self.run.journals if not one.last or one.last.word != "finalize"]
+        ends = {"finalize"} | ({"cut"} if self.run.has_ended else set())
+        cut = [one.rank for one in self.run.journals if not one.last or one.last.word not in ends]
         for ranks in grouped(cut, self._place_of):
             polls = [self.run.journals[rank].polls for rank in ranks]
             counts = sorted(one[2] for one in polls if one)
@@ -172,6 +192,7 @@ class Story(Judgement):
         before = [call.placed() for call in journal.tail()[-2:-1]]
         words = {
             "exit": f"its process ended without MPI_Finalize{', after ' + before[0] if before else ''}",
+            "cut": "came to the end of this window, and went on",
             "full": f"{MANY}; those after them aren't judged", "abort": f"called {last.placed()}",
             "stopped": f"{', and '.join([*before, ''])}recorded no further: {' '.join(last.fields)}",
         }  # fmt: skip

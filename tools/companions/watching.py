@@ -9,6 +9,7 @@ import time
 from contextlib import suppress
 
 from .causes import stuck_lines
+from .journals import windows_in
 from .outputs import runs_in
 from .runs import Run, View
 from .script import Stopped, ranks_named, say, why_of
@@ -27,15 +28,22 @@ def mark_of(path):
 class Watched:
     """The ranks of a run, and since when each stands still."""
     def __init__(self, folder):
-        self.folder, self.marks, self.since, self.reported, self.still = folder, {}, {}, None, None
+        self.run, self.marks, self.since, self.reported, self.still = folder, {}, {}, None, None
+        self.folder = folder  # of the last window, if there are some
         # Until when nothing is judged, and that for any standstill; and how long the next pause is.
         self.until, self.rest, self.pause = 0.0, 0.0, 0.0
 
     def look(self, now):
+        last = windows_in(self.run)[-1:]
+        if last and self.folder != self.run / str(*last):
+            self.folder, self.marks = self.run / str(*last), {}
         for path in self.folder.glob("journal[0-9]*"):
-            rank, mark = int(path.name[7:]), mark_of(path)
-            if self.marks.get(rank) != mark:
-                self.marks[rank], self.since[rank] = mark, now
+            with suppress(FileNotFoundError):  # a window that was judged
+                self.look_at(int(path.name[7:]), mark_of(path), now)
+
+    def look_at(self, rank, mark, now):
+        if self.marks.get(rank) != mark:
+            self.marks[rank], self.since[rank] = mark, now
 
 
 class Alarm:
@@ -76,7 +84,7 @@ class Alarm:
         marks = {rank: watched.marks[rank] for rank in held}
         watched.rest = time.monotonic() + 9 * (time.monotonic() - now)  # one tenth of the time judges
         watched.look(now)
-        have_moved = any(watched.marks[rank] != mark for rank, mark in marks.items())
+        have_moved = any(watched.marks.get(rank) != mark for rank, mark in marks.items())
         if not held or have_moved or marks == watched.reported:
             watched.until = max(watched.rest, time.monotonic() + watched.pause)
             watched.pause *= 2

@@ -10,8 +10,11 @@
  *   persistent.c      persistent ones
  *   probes.c          probes and the messages that they take
  *   collectives.c     collectives
+ *   sums.c            what is under way
+ *   windows.c         when a recording is cut into windows
  *   strict.c          strict runs
  *   strict_pairs.c    their nonblocking calls that both send and receive
+ *   strict_waits.c    how their calls wait
  */
 #ifndef MPIWAIT_CALLS_H
 #define MPIWAIT_CALLS_H
@@ -70,6 +73,9 @@ bool take_barrier(MPI_Comm *comm);
 /* Whether the call is still recorded. */
 bool is_recorded(void);
 
+/* Whether it is, no other thread can complete a request meanwhile, and what is written now stays. */
+bool may_ask(void);
+
 /* Calls MPI. */
 void leave_recorder(void);
 void enter_recorder(void);
@@ -125,7 +131,10 @@ void number_communicators(void);
 int numbered(MPI_Comm comm, const char *call);
 
 /* A call that made communicator `comm`: `=idup` with the number of its request. */
-void adopt_duplicate(int request, MPI_Comm comm);
+void adopt_duplicate(int request, MPI_Comm comm, uint64_t origin);
+
+/* The lines `=apart` of all communicators that the rank has, at the beginning of a window. */
+void report_communicators(void);
 
 static inline uintptr_t bits(MPI_Request handle) {
     return handle == MPI_REQUEST_NULL ? 0 : (uintptr_t)handle;
@@ -137,6 +146,12 @@ int new_number(void);
 /* A call started a request; its number is 0 if the call has no line. Answers its entry in the table, to be
  * filled in, or NULL if the recording stopped. */
 Request *started(MPI_Request *handle, int number);
+
+/* Whether a probe took a message that isn't received yet. */
+bool holds_messages(void);
+
+/* Writes what became of an open request: the message that a wildcard got, or whether it was cancelled. */
+void report_end(Request *request, const MPI_Status *status);
 
 /* A call made a persistent request that isn't recorded. */
 void made_persistent(MPI_Request *handle);

@@ -1,21 +1,26 @@
 /* Collectives, in both forms. See calls.h. */
 #define _GNU_SOURCE
 #include "strict.h"
+#include "sums.h"
+#include "windows.h"
 #include <string.h>
 
 static const char unnumbered[] = "collectives on communicators that have no number";
 
 static inline bool is_barrier(const char *word) { return strcmp(word, "barrier") == 0; }
 
-/* Both forms of a collective. */
-#define BOTH(Name, Iname, word, root, params, args) \
+/* Both forms of a collective. `meet' is done behind the blocking one (windows.h). */
+#define BOTH(Name, Iname, word, root, params, args, meet) \
     int MPI_##Name(UNPACK params MPI_Comm comm) { \
         int number = BEGINS ? numbered(comm, unnumbered) : UNNUMBERED; \
         if (number != UNNUMBERED) \
             PUT(word, number, root); \
+        joins(MADE, number); \
+        strict_ask(); \
         is_barrier(word) ? (void)0 : collective_begins(comm); \
         int result = CALL(Name, (UNPACK args comm)); \
         collective_ends(result); \
+        meet; \
         return over(result); \
     } \
     ALSO_PMPI(Name) \
@@ -24,6 +29,7 @@ static inline bool is_barrier(const char *word) { return strcmp(word, "barrier")
         int request = number == UNNUMBERED ? 0 : new_number(); \
         if (request) \
             PUT("i" word, request, number, root); \
+        joins(MADE, number); \
         int result = CALL(Iname, (UNPACK args comm, handle)); \
         if (is_recorded() && result == MPI_SUCCESS) \
             started(handle, request); \
@@ -34,7 +40,10 @@ static inline bool is_barrier(const char *word) { return strcmp(word, "barrier")
 /* So that names are made before they are joined. */
 #define COLLECTIVE(...) BOTH(__VA_ARGS__)
 
-BOTH(Barrier, Ibarrier, "barrier", UNKNOWN, (), ())
+BOTH(Barrier, Ibarrier, "barrier", UNKNOWN, (), (), windows_meet(comm, result))
+
+#define NO_MEETING (void)0
+#define MEETING windows_meet_with(comm, n, t, result)
 
 #define N int
 #define D int

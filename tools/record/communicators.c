@@ -1,6 +1,7 @@
 /* Communicators and their numbers. See calls.h. */
 #define _GNU_SOURCE
-#include "calls.h"
+#include "strict.h"
+#include "sums.h"
 
 /* Each rank numbers its communicators by itself; what reads the journals finds which are the same. The number
  * is an attribute of the communicator. */
@@ -41,13 +42,6 @@ static void set_number(MPI_Comm comm, int number) {
     last_asked = MPI_COMM_NULL;
 }
 
-void number_communicators(void) {
-    REAL(Comm_group)(MPI_COMM_WORLD, &world);
-    REAL(Comm_create_keyval)(MPI_COMM_NULL_COPY_FN, forget_number, &number_key, NULL);
-    set_number(MPI_COMM_WORLD, WORLD);
-    set_number(MPI_COMM_SELF, SELF);
-}
-
 /* ---- Groups ------------------------------------------------------------------------------------ */
 
 /* The world ranks of a group's members, after `before` free fields. NULL if a member is of another world, or
@@ -75,40 +69,83 @@ static Field *members_of(MPI_Group group, int before, int *size) {
     return NULL;
 }
 
+static Field *members_of_communicator(MPI_Comm comm, int before, int *size) {
+    MPI_Group group;
+    REAL(Comm_group)(comm, &group);
+    Field *fields = members_of(group, before, size);
+    REAL(Group_free)(&group);
+    return fields;
+}
+
+/* The world and MPI_COMM_SELF have no origin; their groups differ where they do. */
+static void number_first(MPI_Comm comm, int number) {
+    int size;
+    Field *members = members_of_communicator(comm, 0, &size);
+    set_number(comm, number);
+    if (members)
+        has_communicator(number, comm, number, size, members);
+    free(members);
+}
+
+void number_communicators(void) {
+    REAL(Comm_group)(MPI_COMM_WORLD, &world);
+    REAL(Comm_create_keyval)(MPI_COMM_NULL_COPY_FN, forget_number, &number_key, NULL);
+    number_first(MPI_COMM_WORLD, WORLD);
+    number_first(MPI_COMM_SELF, SELF);
+}
+
 /* Gives a communicator the next number and writes its group, after the request that made it, if any. A
  * communicator with members of another world gets no number. */
-static void report_group(const char *word, int request, MPI_Comm comm) {
-    MPI_Group group;
+static void report_group(const char *word, int request, MPI_Comm comm, uint64_t origin) {
     int size, before = request ? 2 : 1;
-    REAL(Comm_group)(comm, &group);
-    Field *fields = members_of(group, before, &size);
-    REAL(Group_free)(&group);
+    Field *fields = members_of_communicator(comm, before, &size);
     if (!fields)
         return;
     fields[0] = next_comm;
     if (request)
         fields[1] = request;
     journal_report(word, before + size, fields);
+    has_communicator(next_comm, comm, origin, size, fields + before);
     set_number(comm, next_comm++);
     free(fields);
 }
 
-static void adopt_by(const char *word, int request, MPI_Comm new) {
+static void adopt_by(const char *word, int request, MPI_Comm new, uint64_t origin) {
     int inter = 0;
     REAL(Comm_test_inter)(new, &inter);
-    if (!inter && !journal_is_full)
-        report_group(word, request, new);
+    if (inter)
+        in_doubt = true;
+    else if (!journal_is_full)
+        report_group(word, request, new, origin);
 }
 
 /* A call made a communicator, or gave this rank none. */
-static void adopt(const char *word, MPI_Comm new) {
+static void adopt(const char *word, MPI_Comm new, uint64_t origin) {
     if (new == MPI_COMM_NULL)
         journal_report("=none", 0, NULL);
     else
-        adopt_by(word, 0, new);
+        adopt_by(word, 0, new, origin);
 }
 
-void adopt_duplicate(int request, MPI_Comm comm) { adopt_by("=idup", request, comm); }
+void adopt_duplicate(int request, MPI_Comm comm, uint64_t origin) {
+    adopt_by("=idup", request, comm, origin);
+}
+
+void report_communicators(void) {
+    int count, size;
+    int *numbers = communicators_had(&count);
+    if (!numbers)
+        journal_stop("there is no memory for its communicators");
+    for (int i = 0; i < count && recording; i++) {
+        Field *fields = members_of_communicator(communicator_of(numbers[i]), 1, &size);
+        if (!fields)
+            break;
+        fields[0] = numbers[i];
+        journal_report("=apart", 1 + size, fields);
+        free(fields);
+    }
+    free(numbers);
+}
 
 /* ---- Calls of all members ---------------------------------------------------------------------- */
 
@@ -118,9 +155,11 @@ void adopt_duplicate(int request, MPI_Comm comm) { adopt_by("=idup", request, co
         int number = BEGINS ? numbered(comm, unnumbered) : UNNUMBERED; \
         if (number != UNNUMBERED) \
             PUT(word, number, ##__VA_ARGS__); \
+        uint64_t origin = joins(MADE, number); \
+        strict_ask(); \
         int result = CALL(Name, args); \
         if (is_recorded() && number != UNNUMBERED && result == MPI_SUCCESS) \
-            adopt("=comm", *new); \
+            adopt("=comm", *new, origin); \
         return over(result); \
     } \
     ALSO_PMPI(Name)
@@ -156,8 +195,11 @@ MAKER(Dist_graph_create_adjacent, "comm_make",
         int request = number == UNNUMBERED ? 0 : new_number(); \
         if (request) \
             PUT("comm_idup", request, number); \
+        uint64_t origin = joins(BY_IDUP, number); \
         int result = CALL(Name, (UNPACK args, new, handle)); \
         Request *known = is_recorded() && result == MPI_SUCCESS ? started(handle, request) : NULL; \
+        if (known) \
+            known->origin = origin; \
         if (known && *new != MPI_COMM_NULL) \
             known->comm = (uintptr_t) * new; \
         else if (known) \
@@ -174,12 +216,12 @@ IDUP(Comm_idup_with_info, (MPI_Comm comm, MPI_Info info), (comm, info))
 /* ---- Calls of some ----------------------------------------------------------------------------- */
 
 /* Only the members of the new communicator call it. A caller outside the group gets none. */
-static bool put_create_group(MPI_Group group) {
+static bool put_create_group(MPI_Group group, uint64_t *origin) {
     int size = 0, rank = MPI_UNDEFINED;
     REAL(Group_rank)(group, &rank);
     Field *fields = rank == MPI_UNDEFINED ? NULL : members_of(group, 0, &size);
     if (fields)
-        journal_call("comm_create_group", size, fields, site());
+        journal_call("comm_create_group", size, fields, site()), *origin = origin_of_group(size, fields);
     else
         left_out(rank == MPI_UNDEFINED ? NOTHING : WAITS,
                  "MPI_Comm_create_group of a group that isn't of the world");
@@ -188,10 +230,11 @@ static bool put_create_group(MPI_Group group) {
 }
 
 int MPI_Comm_create_group(MPI_Comm comm, MPI_Group group, int tag, MPI_Comm *new) {
-    bool is_put = BEGINS && put_create_group(group);
+    uint64_t origin = 0;
+    bool is_put = BEGINS && put_create_group(group, &origin);
     int result = CALL(Comm_create_group, (comm, group, tag, new));
     if (is_put && is_recorded() && result == MPI_SUCCESS && *new != MPI_COMM_NULL)
-        adopt("=comm", *new);
+        adopt("=comm", *new, origin);
     return over(result);
 }
 ALSO_PMPI(Comm_create_group)
@@ -204,7 +247,7 @@ ALSO_PMPI(Comm_create_group)
             left_out(WAITS, "MPI_" #Name " itself (calls on what it makes are recorded)"); \
         int result = CALL(Name, args); \
         if (is_recorded() && result == MPI_SUCCESS && *new != MPI_COMM_NULL) \
-            adopt("=apart", *new); \
+            adopt("=apart", *new, origin_of(APART, 0, next_comm)); \
         return over(result); \
     } \
     ALSO_PMPI(Name)
@@ -229,7 +272,10 @@ ALSO_PMPI(Comm_set_name)
         int number = BEGINS_QUIETLY ? number_of(*comm) : UNNUMBERED; \
         if (number > SELF) \
             PUT("comm_free", number); \
-        return over(CALL(Name, (comm))); \
+        int result = CALL(Name, (comm)); \
+        if (number > SELF && is_recorded() && result == MPI_SUCCESS) \
+            frees_communicator(number); \
+        return over(result); \
     } \
     ALSO_PMPI(Name)
 

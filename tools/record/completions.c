@@ -1,9 +1,9 @@
 /* Waits and tests. See calls.h. */
 #define _GNU_SOURCE
-#include "calls.h"
 #include "strict.h"
+#include "sums.h"
 
-enum { FEW = 64 };
+enum { FEW = 64, MOST_ASKED = MOST_FIELDS / 2 };
 
 /* One request of a wait or a test, as it was before the call. */
 typedef struct {
@@ -17,9 +17,10 @@ typedef enum { NO_LINE, WAIT_LINE, CHOICE_LINE } Line;
 /* A wait or a test, and room for what it needs. */
 typedef struct {
     int count;
-    bool begun, needed; /* statuses are needed if a request has a wildcard or was cancelled */
+    bool begun, needed; /* statuses are needed if a request is open */
     bool has_others;    /* it waits for active requests of calls that aren't recorded */
     int named, pairs;   /* how many of its requests are active; how many of these both send and receive */
+    int open;           /* how many are open (requests.h) */
     Line line;
     MPI_Status *place; /* where its statuses go */
     bool is_for_all;   /* there is a status for each request, in their order */
@@ -63,14 +64,15 @@ static void look_at(Asked *asked, Named *named) {
     named->second = request->second;
     asked->named++;
     asked->pairs += request->second != 0;
-    asked->needed = asked->needed || request->wild || request->cancelled;
+    asked->open += request->open;
+    asked->needed = asked->needed || request->open;
 }
 
 static void ask(Asked *asked, bool begun, int count, const MPI_Request handles[]) {
     asked->begun = begun;
     asked->count = count;
     asked->needed = asked->has_others = asked->is_for_all = false;
-    asked->named = asked->pairs = 0;
+    asked->named = asked->pairs = asked->open = 0;
     asked->line = NO_LINE;
     asked->memory = NULL;
     if (begun && !make_room(asked)) {
@@ -143,7 +145,8 @@ static void report_choice(Asked *asked, int count, const int places[]) {
 
 /* ---- Completed requests ------------------------------------------------------------------------ */
 
-static void report_end(int number, bool wild, const Request *request, const MPI_Status *status) {
+/* Answers whether it was cancelled. */
+static bool report_half(int number, bool wild, const Request *request, const MPI_Status *status) {
     int gone = 0;
     if (request->cancelled)
         REAL(Test_cancelled)(status, &gone);
@@ -151,6 +154,31 @@ static void report_end(int number, bool wild, const Request *request, const MPI_
         journal_done(number, status->MPI_SOURCE, status->MPI_TAG);
     else if (request->cancelled)
         REPORT(gone ? "=gone" : "=kept", number);
+    return gone;
+}
+
+/* One that both sends and receives has two ends. */
+void report_end(Request *request, const MPI_Status *status) {
+    if (!request->open)
+        return;
+    bool first = report_half(request->number, request->wild && !request->second, request, status);
+    bool last = request->second ? report_half(request->second, request->wild, request, status) : first;
+    settles(request, first, last, status);
+    request_closes(request);
+    request->told = true;
+}
+
+/* It completed. */
+static void settle(Request *request, const MPI_Status *status) {
+    if (request->told)
+        return;
+    if (status && request->open) {
+        report_end(request, status);
+        return;
+    }
+    if (request->cancelled && !status)
+        in_doubt = true;
+    settles(request, false, false, status);
 }
 
 /* A request is no longer in use. A persistent one may be started again. */
@@ -160,7 +188,8 @@ static void drop(uintptr_t handle) {
         requests_remove(handle);
         return;
     }
-    request->active = request->cancelled = false;
+    request_closes(request);
+    request->active = request->cancelled = request->told = false;
     request->number = 0;
 }
 
@@ -175,15 +204,13 @@ static void finish(uintptr_t handle, const MPI_Status *status) {
     if (!request || !request->active)
         return;
     int number = request->number;
-    if (number && status) {
-        report_end(number, request->wild && !request->second, request, status);
-        if (request->second)
-            report_end(request->second, request->wild, request, status);
-    }
+    if (number)
+        settle(request, status);
     MPI_Comm made = made_by(request);
+    uint64_t origin = request->origin;
     drop(handle);
     if (number && made != MPI_COMM_NULL)
-        adopt_duplicate(number, made);
+        adopt_duplicate(number, made, origin);
 }
 
 /* The requests at these places (NULL: all) completed. */
@@ -234,12 +261,30 @@ static void none_active(Asked *asked) {
 
 /* ---- Waits ------------------------------------------------------------------------------------- */
 
+/* In a strict run the recorder waits itself if there are requests to be asked meanwhile, other than those
+ * whose completion ends the wait. */
+static void linger(const Asked *asked, bool is_for_one) {
+    MPI_Request active[MOST_ASKED];
+    int count = 0, own = is_for_one || asked->named == 1 ? asked->open : 0;
+    if (!asked->begun || asked->named == 0 || asked->named > MOST_ASKED || asked->has_others)
+        return;
+    if (requests_open() == own || !strict_asks())
+        return;
+    for (int i = 0; i < asked->count; i++)
+        if (asked->requests[i].number)
+            active[count++] = (MPI_Request)asked->requests[i].handle;
+    leave_recorder();
+    strict_wait(count, active, is_for_one);
+    enter_recorder();
+}
+
 int MPI_Wait(MPI_Request *handle, MPI_Status *status) {
     Asked asked;
     ask(&asked, BEGINS, 1, handle);
     MPI_Status *place = place_for(&asked, status, MPI_STATUS_IGNORE);
     if (asked.named)
         put_list("wait", &asked, 1, NULL);
+    linger(&asked, false);
     int result = CALL(Wait, (handle, place));
     if (is_back(&asked) && result == MPI_SUCCESS)
         finish_all(&asked, 1, NULL);
@@ -256,6 +301,7 @@ int MPI_Waitall(int count, MPI_Request handles[], MPI_Status statuses[]) {
     MPI_Status *place = place_for(&asked, statuses, MPI_STATUSES_IGNORE);
     if (asked.named)
         put_list("wait", &asked, count, NULL);
+    linger(&asked, false);
     int result = CALL(Waitall, (count, handles, place));
     if (is_back(&asked) && result == MPI_SUCCESS)
         finish_all(&asked, count, NULL);
@@ -270,6 +316,7 @@ int MPI_Waitany(int count, MPI_Request handles[], int *chosen, MPI_Status *statu
     ask(&asked, BEGINS, count, handles);
     MPI_Status *place = place_for(&asked, status, MPI_STATUS_IGNORE);
     put_choice("waitany", true, &asked);
+    linger(&asked, true);
     int result = CALL(Waitany, (count, handles, chosen, place));
     if (is_back(&asked) && result != MPI_SUCCESS) {
         sort_out(&asked, result, handles);
@@ -288,6 +335,7 @@ int MPI_Waitsome(int count, MPI_Request handles[], int *some, int places[], MPI_
     ask(&asked, BEGINS, count, handles);
     MPI_Status *place = place_for(&asked, statuses, MPI_STATUSES_IGNORE);
     put_choice("waitsome", false, &asked);
+    linger(&asked, true);
     int result = CALL(Waitsome, (count, handles, some, places, place));
     if (is_back(&asked) && result != MPI_SUCCESS) {
         sort_out(&asked, result, handles);

@@ -60,6 +60,7 @@ static int new_kind(Meaning meaning, const char *what) {
 }
 
 void left_out(Meaning meaning, const char *what) {
+    in_doubt = in_doubt || meaning != NOTHING;
     if (!counts.text)
         return;
     pthread_mutex_lock(&counting);

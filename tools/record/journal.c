@@ -7,6 +7,7 @@
 #include <stdio.h>
 #include <string.h>
 #include <sys/mman.h>
+#include <sys/stat.h>
 #include <unistd.h>
 
 enum {
@@ -17,17 +18,28 @@ enum {
     MOST_CALLS = 1000001 /* one more than a trace may have, since a trace has no MPI_Init */
 };
 
-bool recording, journal_is_full;
+bool recording, journal_is_full, in_doubt;
+int journal_site;
 
+/* What the header of each window's journal has, and the folder of the run. */
 static struct {
-    int file, rank;
+    char folder[4096], id[LONGEST_ID], library[512];
+    int ranks;
+} run;
+
+typedef struct {
+    int file, rank, number; /* of its window, or 0 */
     bool is_open;
     long calls;
     off_t start; /* where the window begins in the file */
     size_t size; /* of the window */
     char *window, *at;
-    char *state, *polls; /* their places in the header, whose page stays mapped to the end */
-} journal;
+    char *header;        /* its page stays mapped to the end */
+    char *state, *polls; /* their places in the header */
+} Journal;
+
+static Journal journal, next;
+static unsigned long lines;
 
 /* The call that is being recorded. */
 static struct {
@@ -120,6 +132,7 @@ static void put_line(const char *word, int count, const Field *fields, int site)
     *at++ = '\n';
     __atomic_store_n(journal.at, word[0], __ATOMIC_RELEASE);
     journal.at = at;
+    lines++;
 }
 
 /* Removes what was written from a place on, if that is still mapped. */
@@ -172,6 +185,7 @@ void journal_call(const char *word, int count, const Field *fields, int site) {
     if (journal_is_full || !has_room(count))
         return;
     journal_is_full = ++journal.calls > MOST_CALLS;
+    journal_site = site;
     if (journal_is_full)
         put_line("full", 0, NULL, site);
     else
@@ -196,7 +210,7 @@ void journal_done(int number, Field source, Field tag) {
 void journal_failed(void) {
     if (call.lines == 0 || call.failed || journal_is_full)
         return;
-    call.failed = true;
+    call.failed = in_doubt = true;
     if (call.lines > 1)
         cut_from(call.first_end);
     journal_report("=failed", 0, NULL);
@@ -216,6 +230,7 @@ void journal_take_back(void) {
 
 void journal_stop(const char *why) {
     recording = false;
+    in_doubt = true;
     if (!journal.is_open || journal_is_full)
         return;
     char line[LONGEST_STOP];
@@ -234,28 +249,74 @@ void journal_close(void) {
 
 /* ---- Beginning --------------------------------------------------------------------------------- */
 
-static bool put_header(const char *id, int ranks, const char *library) {
-    char line[1024];
-    int before = snprintf(line, sizeof line, "journal 2 %d %d %s ", journal.rank, ranks, id);
-    int length = before + snprintf(line + before, sizeof line - before, "o %s polls %s", library, no_polls);
-    journal.state = map_text(journal.file, 0, sysconf(_SC_PAGESIZE));
-    if (length >= (int)sizeof line || !journal.state)
+static bool put_header(void) {
+    char line[1024], window[16] = "";
+    if (journal.number)
+        snprintf(window, sizeof window, ".%d", journal.number);
+    int before =
+        snprintf(line, sizeof line, "journal 2 %d %d %s%s ", journal.rank, run.ranks, run.id, window);
+    int length =
+        before + snprintf(line + before, sizeof line - before, "o %s polls %s", run.library, no_polls);
+    journal.header = map_text(journal.file, 0, sysconf(_SC_PAGESIZE));
+    if (length >= (int)sizeof line || !journal.header)
         return false;
-    journal.polls = journal.state + length - (sizeof no_polls - 1);
-    journal.state += before;
+    journal.polls = journal.header + length - (sizeof no_polls - 1);
+    journal.state = journal.header + before;
     put_line(line, 0, NULL, 0);
     return true;
 }
 
-const char *journal_open(const char *folder, const char *id, int rank, int ranks, const char *library) {
-    journal.rank = rank;
+static const char *begin_journal(int rank, int window, bool is_first) {
+    static const char no_room[] = "there is no room for its journal";
+    char folder[sizeof run.folder + 16];
+    snprintf(folder, sizeof folder, window ? "%s/%d" : "%s", run.folder, window);
+    if (window)
+        mkdir(folder, 0777);
+    journal = (Journal){.rank = rank, .number = window};
     journal.file = create_text(folder, "journal", rank);
     if (journal.file < 0)
         return errno == EEXIST ? "an MPI program before it was recorded in the same folder"
                                : "no journal can be made in the folder that MPIWAIT_JOURNAL names";
-    const char *why = counts_open(folder, rank);
-    if (why || !move_window() || !put_header(id, ranks, library))
-        return "there is no room for its journal";
-    journal.is_open = true;
-    return NULL;
+    if (is_first && counts_open(run.folder, rank))
+        return no_room;
+    journal.is_open = move_window() && put_header();
+    return journal.is_open ? NULL : no_room;
 }
+
+const char *journal_open(const char *folder, const char *id, int rank, int ranks, const char *library,
+                         int window) {
+    snprintf(run.folder, sizeof run.folder, "%s", folder);
+    snprintf(run.id, sizeof run.id, "%s", id);
+    snprintf(run.library, sizeof run.library, "%s", library);
+    run.ranks = ranks;
+    return begin_journal(rank, window, true);
+}
+
+/* ---- Windows ----------------------------------------------------------------------------------- */
+
+bool journal_begin_window(void) {
+    Journal old = journal;
+    const char *why = begin_journal(old.rank, old.number + 1, false);
+    next = journal;
+    journal = old;
+    if (why)
+        journal_stop(why);
+    return !why;
+}
+
+void journal_cut(void) {
+    if (!has_room(0)) {
+        next.is_open = false;
+        return;
+    }
+    set_state('o');
+    put_line("cut", 0, NULL, 0);
+    journal_close();
+    munmap(journal.window, journal.size);
+    munmap(journal.header, sysconf(_SC_PAGESIZE));
+    close(journal.file);
+    journal = next;
+    journal_begin();
+}
+
+unsigned long journal_lines(void) { return lines; }

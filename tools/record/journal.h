@@ -27,6 +27,9 @@
  *
  * A line of namesR is the rank's number of a communicator and the name, written in the same way.
  *
+ * A recording with windows (windows.h) has the journals of each in a folder of its own: 1, 2, .. in that of
+ * the run. The journals of all but the last one end with `cut`.
+ *
  * MPIWAIT_JOURNAL names the folder of the run. The file `run` there has the ID of the first run; ranks of
  * another run write into the subfolder `run-ID`. For a process that isn't recorded, the file `unrecorded` of
  * one of these folders has a line with the reason.
@@ -57,13 +60,26 @@ extern bool recording;
  * gets a number. */
 extern bool journal_is_full;
 
-/* Why the journal can't be begun, or NULL. */
-const char *journal_open(const char *folder, const char *id, int rank, int ranks, const char *library);
+/* Whether something isn't known that would have to be, for nothing to be under way: what a call did that
+ * failed or isn't recorded, or what became of a request. */
+extern bool in_doubt;
+
+/* Why the journal can't be begun, or NULL. Windows are numbered from 1; without windows the number is 0. */
+const char *journal_open(const char *folder, const char *id, int rank, int ranks, const char *library,
+                         int window);
+
+/* Begins the journal of the next window, if there is room. Lines go to the old one until that is cut. */
+bool journal_begin_window(void);
+void journal_cut(void);
+
+/* How many lines it has, those of earlier windows too. */
+unsigned long journal_lines(void);
 
 /* A call of the program begins. It may write several lines, or none. */
 void journal_begin(void);
 
-/* Writes a line for it, with a site that `site_of` gave. */
+/* Writes a line for it, with a site that `site_of` gave: that of the last line is in `journal_site`. */
+extern int journal_site;
 void journal_call(const char *word, int count, const Field *fields, int site);
 
 /* Writes a result of the call, or what became of an earlier call's request. The word begins with `=`. */
@@ -116,6 +132,11 @@ bool run_is_given(char *id, int *rank);
 /* The folder of the run to which this process belongs, and the run's ID. Answers NULL, or why there is no
  * folder. */
 const char *run_open(const char *named, int ranks, char *folder, unsigned long room, const char **id);
+
+/* A process shows by a mark of some kind that it has a recorder for that: before MPI begins. After MPI_Init
+ * all ranks see the same marks. The folder of the marks is empty if there are none. */
+void put_mark(const char *folder, const char *kind, char marks[4096]);
+bool has_mark(const char *marks, int rank);
 
 void sites_open(const char *folder, int rank);
 

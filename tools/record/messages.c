@@ -20,18 +20,38 @@ void report_message(int number, int source, int result, const MPI_Status *status
         REPORT("=got", status->MPI_SOURCE, status->MPI_TAG);
 }
 
+/* The same of a receive, which completed. */
+static void report_received(int number, int source, int result, const MPI_Status *status) {
+    report_message(number, source, result, status);
+    if (number != UNNUMBERED && result == MPI_SUCCESS && is_recorded())
+        receives(number, source == MPI_PROC_NULL ? NULL_PEER : status->MPI_SOURCE, status->MPI_TAG);
+}
+
 /* ---- Sends ------------------------------------------------------------------------------------- */
+
+/* Whether such a blocking send waits for its receive. */
+static bool is_synchronous(const char *word, MPI_Comm comm) {
+    return strcmp(word, "ssend") == 0 || (strcmp(word, "send") == 0 && sends_synchronously(comm));
+}
 
 /* `Synchronous` is what a standard send becomes in a strict run. Other sends name themselves. */
 #define CALL_SEND(Name, Synchronous, args) \
     (sends_synchronously(comm) ? CALL(Synchronous, args) : CALL(Name, args))
 
-#define SEND(Name, Synchronous, Count, word) \
+/* While requests are to be asked it becomes `Started` and a wait. */
+#define SEND(Name, Synchronous, Started, Count, word) \
     int MPI_##Name(const void *data, Count count, MPI_Datatype type, int dest, int tag, MPI_Comm comm) { \
         int number = BEGINS ? numbered(comm, unnumbered) : UNNUMBERED; \
         if (number != UNNUMBERED) \
             PUT(word, number, receiver(dest), tag, is_standard(word) ? bytes(count, type) : UNKNOWN); \
-        return over(CALL_SEND(Name, Synchronous, (data, count, type, dest, tag, comm))); \
+        sends(number, receiver(dest), tag); \
+        MPI_Request sent; \
+        bool asks = is_synchronous(word, comm) && strict_asks(); \
+        int result = asks ? CALL(Started, (data, count, type, dest, tag, comm, &sent)) \
+                          : CALL_SEND(Name, Synchronous, (data, count, type, dest, tag, comm)); \
+        if (asks && result == MPI_SUCCESS) \
+            result = OUTSIDE(strict_finish(&sent, MPI_STATUS_IGNORE)); \
+        return over(result); \
     } \
     ALSO_PMPI(Name)
 
@@ -43,27 +63,29 @@ void report_message(int number, int source, int result, const MPI_Status *status
         if (request) \
             PUT(word, request, number, receiver(dest), tag, \
                 is_standard(word) ? bytes(count, type) : UNKNOWN); \
+        uint64_t sent = sends(number, receiver(dest), tag); \
         int result = CALL_SEND(Name, Synchronous, (data, count, type, dest, tag, comm, handle)); \
-        if (is_recorded() && result == MPI_SUCCESS) \
-            started(handle, request); \
+        Request *known = is_recorded() && result == MPI_SUCCESS ? started(handle, request) : NULL; \
+        if (known) \
+            known->sent = sent; \
         return over(result); \
     } \
     ALSO_PMPI(Name)
 
-SEND(Send, Ssend, int, "send")
-SEND(Ssend, Ssend, int, "ssend")
-SEND(Bsend, Bsend, int, "bsend")
-SEND(Rsend, Rsend, int, "rsend")
+SEND(Send, Ssend, Issend, int, "send")
+SEND(Ssend, Ssend, Issend, int, "ssend")
+SEND(Bsend, Bsend, Ibsend, int, "bsend")
+SEND(Rsend, Rsend, Irsend, int, "rsend")
 ISEND(Isend, Issend, int, "isend")
 ISEND(Issend, Issend, int, "issend")
 ISEND(Ibsend, Ibsend, int, "ibsend")
 ISEND(Irsend, Irsend, int, "irsend")
 
 #ifdef HAS_Send_c
-SEND(Send_c, Ssend_c, MPI_Count, "send")
-SEND(Ssend_c, Ssend_c, MPI_Count, "ssend")
-SEND(Bsend_c, Bsend_c, MPI_Count, "bsend")
-SEND(Rsend_c, Rsend_c, MPI_Count, "rsend")
+SEND(Send_c, Ssend_c, Issend_c, MPI_Count, "send")
+SEND(Ssend_c, Ssend_c, Issend_c, MPI_Count, "ssend")
+SEND(Bsend_c, Bsend_c, Ibsend_c, MPI_Count, "bsend")
+SEND(Rsend_c, Rsend_c, Irsend_c, MPI_Count, "rsend")
 ISEND(Isend_c, Issend_c, MPI_Count, "isend")
 ISEND(Issend_c, Issend_c, MPI_Count, "issend")
 ISEND(Ibsend_c, Ibsend_c, MPI_Count, "ibsend")
@@ -72,16 +94,22 @@ ISEND(Irsend_c, Irsend_c, MPI_Count, "irsend")
 
 /* ---- Receives ---------------------------------------------------------------------------------- */
 
-#define RECV(Name, Count) \
+/* As with sends. */
+#define RECV(Name, Started, Count) \
     int MPI_##Name(void *data, Count count, MPI_Datatype type, int source, int tag, MPI_Comm comm, \
                    MPI_Status *status) { \
         MPI_Status mine, *seen = status == MPI_STATUS_IGNORE ? &mine : status; \
         int number = BEGINS ? numbered(comm, unnumbered) : UNNUMBERED; \
         if (number != UNNUMBERED) \
             PUT("recv", number, sender(source), tag_of_receive(tag)); \
-        int result = \
-            CALL(Name, (data, count, type, source, tag, comm, number == UNNUMBERED ? status : seen)); \
-        report_message(number, source, result, seen); \
+        MPI_Status *place = number == UNNUMBERED ? status : seen; \
+        MPI_Request taken; \
+        bool asks = source != MPI_PROC_NULL && strict_asks(); \
+        int result = asks ? CALL(Started, (data, count, type, source, tag, comm, &taken)) \
+                          : CALL(Name, (data, count, type, source, tag, comm, place)); \
+        if (asks && result == MPI_SUCCESS) \
+            result = OUTSIDE(strict_finish(&taken, place)); \
+        report_received(number, source, result, seen); \
         return over(result); \
     } \
     ALSO_PMPI(Name)
@@ -96,16 +124,16 @@ ISEND(Irsend_c, Irsend_c, MPI_Count, "irsend")
         int result = CALL(Name, (data, count, type, source, tag, comm, handle)); \
         Request *known = is_recorded() && result == MPI_SUCCESS ? started(handle, request) : NULL; \
         if (known) \
-            known->wild = is_wild(source, tag); \
+            known->receive = receive_of(number, source, tag), request_is_wild(known, is_wild(source, tag)); \
         return over(result); \
     } \
     ALSO_PMPI(Name)
 
-RECV(Recv, int)
+RECV(Recv, Irecv, int)
 IRECV(Irecv, int)
 
 #ifdef HAS_Recv_c
-RECV(Recv_c, MPI_Count)
+RECV(Recv_c, Irecv_c, MPI_Count)
 IRECV(Irecv_c, MPI_Count)
 #endif
 
@@ -119,12 +147,13 @@ IRECV(Irecv_c, MPI_Count)
         if (number != UNNUMBERED) \
             PUT("sendrecv", number, receiver(dest), out_tag, sender(source), tag_of_receive(in_tag), \
                 bytes(count, type)); \
+        sends(number, receiver(dest), out_tag); \
         MPI_Status *place = number == UNNUMBERED ? status : seen; \
         Half out = {(void *)data, count, type, dest, out_tag}; \
         Half taken = {in_data, received, received_type, source, in_tag}; \
         int result = sends_synchronously(comm) ? OUTSIDE(become(out, taken, comm, place)) \
                                                : CALL(Name, (UNPACK args comm, place)); \
-        report_message(number, source, result, seen); \
+        report_received(number, source, result, seen); \
         return over(result); \
     } \
     ALSO_PMPI(Name)
@@ -163,6 +192,7 @@ static bool is_known(MPI_Comm comm) {
         if (first) \
             PUT("isendrecv", first, second, number, receiver(dest), out_tag, sender(source), \
                 tag_of_receive(in_tag), bytes(count, type)); \
+        uint64_t sent = sends(number, receiver(dest), out_tag); \
         Half out = {(void *)data, count, type, dest, out_tag}; \
         Half taken = {in_data, received, received_type, source, in_tag}; \
         int result = sends_synchronously(comm) ? OUTSIDE(become(out, taken, comm, handle)) \
@@ -170,7 +200,9 @@ static bool is_known(MPI_Comm comm) {
         Request *known = is_recorded() && result == MPI_SUCCESS ? started(handle, first) : NULL; \
         if (known) { \
             known->second = second; \
-            known->wild = is_wild(source, in_tag) && is_known(comm); \
+            known->sent = sent; \
+            known->receive = receive_of(number, source, in_tag); \
+            request_is_wild(known, is_wild(source, in_tag) && is_known(comm)); \
         } \
         return over(result); \
     } \

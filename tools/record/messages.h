@@ -2,7 +2,7 @@
 #ifndef MPIWAIT_MESSAGES_H
 #define MPIWAIT_MESSAGES_H
 
-#include "calls.h"
+#include "sums.h"
 #include <string.h>
 
 /* The program doesn't see these names. */
@@ -33,6 +33,10 @@ Field bytes(long long count, MPI_Datatype type);
 
 /* Writes which message a call took or saw. From MPI_PROC_NULL there is none. */
 void report_message(int number, int source, int result, const MPI_Status *status);
+
+static inline Receive receive_of(int number, int source, int tag) {
+    return (Receive){true, number, sender(source), tag_of_receive(tag)};
+}
 
 #pragma GCC visibility pop
 

@@ -66,18 +66,25 @@ static void start_one(MPI_Request handle) {
         return;
     const Template *template = request->template;
     const Field *fields = template->fields;
+    request_closes(request);
+    request->told = false;
     request->number = new_number();
-    request->wild = template->wild;
+    request->receive = (Receive){strcmp(template->word, "irecv") == 0, fields[0], fields[1], fields[2]};
+    request->sent = request->receive.is_there ? 0 : sends(fields[0], fields[1], fields[2]);
+    request_is_wild(request, template->wild);
     if (request->number)
         PUT(template->word, request->number, fields[0], fields[1], fields[2], fields[3]);
+    request->site = journal_site;
 }
 
 /* After an error it isn't known which of them were started. */
 static void none_started(int count, const MPI_Request handles[]) {
     for (int i = 0; i < count; i++) {
         Request *request = requests_find(bits(handles[i]));
-        if (request)
-            request->active = false;
+        if (!request)
+            continue;
+        request->active = false;
+        request_closes(request);
     }
 }
 

@@ -3,7 +3,8 @@
  *
  * The recorder is preloaded between the program and its MPI library (MPI 4.0, section 15.2): it defines
  * `MPI_Send` and others, and they call the library's `PMPI_Send`. It never communicates and never waits for
- * another rank; only a strict run adds barriers (strict.h). The variable MPIWAIT_JOURNAL names the folder for
+ * another rank; only a strict run adds barriers (strict.h), and one with windows exchanges (windows.h). The
+ * variable MPIWAIT_JOURNAL names the folder for
  * the journals.
  *
  * A call is written when it begins, so that a call that never returns is in the journal. Its results are
@@ -18,6 +19,7 @@
 #include "bypasses.h"
 #include "modules.h"
 #include "strict.h"
+#include "windows.h"
 #include <stdio.h>
 #include <string.h>
 #include <pthread.h>
@@ -105,16 +107,24 @@ static void not_recorded(const char *folder, const char *named, int rank, const 
 
 static pid_t process; /* the process that called MPI_Init */
 
-static const char *open_texts(const char *named, int rank, int ranks, char *folder, unsigned long room) {
+static const char *open_texts(const char *named, int rank, int ranks, bool is_spawned, char *folder,
+                              unsigned long room) {
     char words[512], host[256] = "";
     int level = MPI_THREAD_SINGLE;
-    const char *id, *why = run_open(named, ranks, folder, room, &id);
+    const char *id = NULL, *why = NULL;
+    if (!named || !*named)
+        why = "the variable MPIWAIT_JOURNAL names no folder";
+    else if (is_spawned)
+        why = "it was spawned by another run";
+    else
+        why = run_open(named, ranks, folder, room, &id);
     gethostname(host, sizeof host - 1);
     REAL(Query_thread)(&level);
     turns_open(level);
+    bool has_windows = windows_open(!why, level, ranks);
     snprintf(words, sizeof words, "%s%s%s on %s", version, is_strict() ? " strict" : "",
              level == MPI_THREAD_MULTIPLE ? " multiple" : "", host);
-    return why ? why : journal_open(folder, id, rank, ranks, words);
+    return why ? why : journal_open(folder, id, rank, ranks, words, has_windows);
 }
 
 /* The recorder calls the library directly, so another tool must come before it in LD_PRELOAD. */
@@ -131,17 +141,12 @@ static void start(void) {
     int rank, ranks;
     MPI_Comm parent;
     char folder[4096] = "";
-    const char *named = getenv("MPIWAIT_JOURNAL"), *why = NULL;
+    const char *named = getenv("MPIWAIT_JOURNAL");
     REAL(Comm_rank)(MPI_COMM_WORLD, &rank);
     REAL(Comm_size)(MPI_COMM_WORLD, &ranks);
     REAL(Comm_get_parent)(&parent);
     strict_open(ranks);
-    if (!named || !*named)
-        why = "the variable MPIWAIT_JOURNAL names no folder";
-    else if (parent != MPI_COMM_NULL)
-        why = "it was spawned by another run";
-    else
-        why = open_texts(named, rank, ranks, folder, sizeof folder);
+    const char *why = open_texts(named, rank, ranks, parent != MPI_COMM_NULL, folder, sizeof folder);
     if (why) {
         not_recorded(folder, named, rank, why);
         return;
@@ -150,6 +155,7 @@ static void start(void) {
     number_communicators();
     process = getpid();
     look_for_tools(rank);
+    windows_count();
     recording = true;
     find_bypasses();
 }
@@ -166,6 +172,7 @@ static int initialized(int result) {
 static void before_mpi(void) {
     refuse_other_library();
     strict_announce(getenv("MPIWAIT_JOURNAL"));
+    windows_announce(getenv("MPIWAIT_JOURNAL"));
 }
 
 int MPI_Init(int *argc, char ***argv) {
@@ -185,6 +192,7 @@ ALSO_PMPI(Init_thread)
 /* Nothing is recorded after this, not even the program's functions that MPI calls in MPI_Finalize. */
 int MPI_Finalize(void) {
     bool begun = BEGINS;
+    windows_close();
     if (!begun && recording && is_of_program())
         journal_stop("MPI_Finalize was called by a thread that isn't recorded");
     if (begun) {

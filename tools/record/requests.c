@@ -4,6 +4,7 @@
 
 static Request *places;
 static size_t room, used; /* room is a power of two */
+static int open_requests;
 
 static size_t home(uintptr_t handle) { return ((uint64_t)handle * 0x9e3779b97f4a7c15u >> 20) & (room - 1); }
 
@@ -42,9 +43,25 @@ Request *requests_add(uintptr_t handle) {
         return NULL;
     Request *new = place_of(handle);
     used += new->handle == 0;
+    request_closes(new);
     free(new->template);
     *new = (Request){.handle = handle};
     return new;
+}
+
+static int by_number(const void *one, const void *other) {
+    return (*(const Request *const *)one)->number - (*(const Request *const *)other)->number;
+}
+
+const Request **requests_active(int *count) {
+    const Request **found = malloc((used + 1) * sizeof *found);
+    *count = 0;
+    for (size_t i = 0; found && i < room; i++)
+        if (places[i].handle != 0 && places[i].active && places[i].number)
+            found[(*count)++] = &places[i];
+    if (found)
+        qsort(found, *count, sizeof *found, by_number);
+    return found;
 }
 
 /* Closes the gap: a request after it moves into it if the gap lies between that request's home and its place.
@@ -53,6 +70,7 @@ void requests_remove(uintptr_t handle) {
     Request *found = requests_find(handle);
     if (!found)
         return;
+    request_closes(found);
     free(found->template);
     size_t hole = found - places, mask = room - 1;
     for (size_t at = (hole + 1) & mask; places[at].handle != 0; at = (at + 1) & mask) {
@@ -63,4 +81,30 @@ void requests_remove(uintptr_t handle) {
     }
     places[hole] = (Request){0};
     used--;
+}
+
+void request_opens(Request *request) {
+    if (request->open || request->told || !request->number)
+        return;
+    request->open = true;
+    open_requests++;
+}
+
+void request_is_wild(Request *request, bool wild) {
+    request->wild = wild;
+    if (wild)
+        request_opens(request);
+}
+
+void request_closes(Request *request) {
+    open_requests -= request->open;
+    request->open = false;
+}
+
+int requests_open(void) { return open_requests; }
+
+Request *requests_next_open(size_t *place) {
+    while (*place < room && !places[*place].open)
+        ++*place;
+    return *place < room ? &places[(*place)++] : NULL;
 }

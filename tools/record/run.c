@@ -210,3 +210,30 @@ const char *run_open(const char *named, int ranks, char *folder, unsigned long r
         return wrong;
     return mkdir(folder, 0777) == 0 || errno == EEXIST ? NULL : wrong;
 }
+
+/* ---- Marks ------------------------------------------------------------------------------------- */
+
+/* In MPICH and Open MPI no process leaves MPI_Init before all have entered it, since they exchange their
+ * addresses there. So a mark that was made before MPI_Init is seen by all after it. */
+void put_mark(const char *folder, const char *kind, char marks[4096]) {
+    char id[LONGEST_ID], path[4096 + 16];
+    int rank;
+    marks[0] = '\0';
+    if (!folder || !*folder || !run_is_given(id, &rank))
+        return;
+    if (snprintf(marks, 4096, "%s/%s-%s", folder, kind, id) >= 4096) {
+        marks[0] = '\0';
+        return;
+    }
+    mkdir(marks, 0777);
+    snprintf(path, sizeof path, "%s/%d", marks, rank);
+    int file = open(path, O_WRONLY | O_CREAT | O_CLOEXEC, 0666);
+    if (file >= 0)
+        close(file);
+}
+
+bool has_mark(const char *marks, int rank) {
+    char path[4096 + 16];
+    snprintf(path, sizeof path, "%s/%d", marks, rank);
+    return *marks && access(path, F_OK) == 0;
+}

@@ -51,6 +51,7 @@ Request *started(MPI_Request *handle, int number) {
     Request *request = added(*handle);
     if (request) {
         request->number = number;
+        request->site = journal_site;
         request->active = true;
     }
     return request;
@@ -85,11 +86,18 @@ static void put_each(const char *word, const Request *request) {
         PUT(word, request->second);
 }
 
+/* Whether it isn't known what becomes of one that is freed. */
+static bool is_unknown(const Request *request) {
+    bool receives = request->message || (request->receive.is_there && request->receive.source != NULL_PEER);
+    return request->active && (receives || request->cancelled || request->comm || request->place);
+}
+
 int MPI_Request_free(MPI_Request *handle) {
     uintptr_t freed = BEGINS_QUIETLY ? bits(*handle) : 0;
     Request *request = requests_find(freed);
     if (request)
         put_each("request_free", request);
+    in_doubt = in_doubt || (request && is_unknown(request));
     int result = CALL(Request_free, (handle));
     if (freed && is_recorded() && result == MPI_SUCCESS)
         requests_remove(freed);
@@ -101,6 +109,7 @@ int MPI_Cancel(MPI_Request *handle) {
     Request *request = BEGINS_QUIETLY ? requests_find(bits(*handle)) : NULL;
     if (request && request->active && request->number) {
         request->cancelled = true;
+        request_opens(request);
         put_each("cancel", request);
     }
     return over(CALL(Cancel, (handle)));

@@ -3,19 +3,12 @@
  * All members of a communicator must agree whether a barrier follows. It does if each member is a rank of
  * this world with a strict recorder, even if its recording has stopped.
  *
- * A process shows by a file that it has such a recorder. It makes the file before MPI begins, and looks for
- * the files of others after MPI_Init. In MPICH and Open MPI no process leaves MPI_Init before all have
- * entered it, since they exchange their addresses there. So all see the same files, and no barrier of ours
- * waits for a rank without a recorder.
+ * A process shows by a mark that it has such a recorder (run.c). All see the same marks, so no barrier of
+ * ours waits for a rank without a recorder.
  */
 #define _GNU_SOURCE
 #include "strict.h"
-#include <errno.h>
-#include <fcntl.h>
-#include <stdio.h>
 #include <string.h>
-#include <sys/stat.h>
-#include <unistd.h>
 
 enum { FOR_NONE = 1, FOR_ALL = 2 };
 
@@ -30,21 +23,10 @@ bool is_strict(void) { return strict; }
 /* ---- Who has a recorder ------------------------------------------------------------------------ */
 
 void strict_announce(const char *folder) {
-    char id[LONGEST_ID], path[4096 + 16];
-    int rank;
     const char *wanted = getenv("MPIWAIT_STRICT");
     strict = wanted && *wanted && strcmp(wanted, "0") != 0;
-    if (!strict || !folder || !*folder || !run_is_given(id, &rank))
-        return;
-    if (snprintf(marks, sizeof marks, "%s/strict-%s", folder, id) >= (int)sizeof marks) {
-        marks[0] = '\0';
-        return;
-    }
-    mkdir(marks, 0777);
-    snprintf(path, sizeof path, "%s/%d", marks, rank);
-    int file = open(path, O_WRONLY | O_CREAT | O_CLOEXEC, 0666);
-    if (file >= 0)
-        close(file);
+    if (strict)
+        put_mark(folder, "strict", marks);
 }
 
 /* The answer for a communicator is kept as its attribute. */
@@ -52,11 +34,8 @@ void strict_open(int ranks) {
     if (!strict || !*marks || !(has_recorder = calloc(ranks, sizeof *has_recorder)))
         return;
     world_size = ranks;
-    for (int rank = 0; rank < ranks; rank++) {
-        char path[4096 + 16];
-        snprintf(path, sizeof path, "%s/%d", marks, rank);
-        has_recorder[rank] = access(path, F_OK) == 0;
-    }
+    for (int rank = 0; rank < ranks; rank++)
+        has_recorder[rank] = has_mark(marks, rank);
     REAL(Comm_group)(MPI_COMM_WORLD, &world);
     REAL(Comm_create_keyval)(MPI_COMM_NULL_COPY_FN, MPI_COMM_NULL_DELETE_FN, &answer_key, NULL);
 }
@@ -143,8 +122,8 @@ static int exchange(Half out, Half in, MPI_Comm comm, MPI_Status *status) {
     if (result != MPI_SUCCESS)
         return result;
     result = BY_COUNT(Issend)(out.data, out.count, out.type, out.rank, out.tag, comm, &sent);
-    int sending = result == MPI_SUCCESS ? REAL(Wait)(&sent, MPI_STATUS_IGNORE) : result;
-    int receiving = REAL(Wait)(&received, status);
+    int sending = result == MPI_SUCCESS ? strict_finish(&sent, MPI_STATUS_IGNORE) : result;
+    int receiving = strict_finish(&received, status);
     if (in.rank == MPI_PROC_NULL)
         set_status_of_nobody(status);
     return receiving == MPI_SUCCESS ? sending : receiving;

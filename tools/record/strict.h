@@ -49,6 +49,23 @@ int strict_start_replace(Half out, Half in, MPI_Comm comm, MPI_Request *handle);
 /* The program calls MPI_Request_get_status for a request, which may be of such a call. */
 void strict_look(MPI_Request handle);
 
+/* Whether the recorder has to ask requests while the call waits: receives with a wildcard, and cancelled
+ * calls, which no call has completed. */
+bool strict_asks(void);
+
+/* Asks them until a call that waits for these requests would return: for all of them, or for one. It may also
+ * end before. The recorder's lock isn't held. */
+void strict_wait(int count, const MPI_Request handles[], bool is_for_one);
+
+/* Waits for a request that the recorder started for a call. */
+int strict_finish(MPI_Request *handle, MPI_Status *status);
+
+/* What MPI_Probe becomes then, and with a message MPI_Mprobe. */
+int strict_probe(int source, int tag, MPI_Comm comm, MPI_Message *message, MPI_Status *status);
+
+/* Asks them once, before a collective call, which the recorder can't wait for itself. */
+void strict_ask(void);
+
 /* ---- What both have in common ------------------------------------------------------------------ */
 
 #ifdef HAS_Send_c

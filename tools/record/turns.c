@@ -45,6 +45,9 @@ bool is_recorded(void) { return own.inside == 1 && has_turn(); }
 
 bool is_of_program(void) { return own.inside == 1; }
 
+/* If several threads may call, the lines of another thread's call may be taken out later. */
+bool may_ask(void) { return is_recorded() && !alone && (!several || turn.is_of_first); }
+
 int site(void) {
     if (own.site < 0)
         own.site = site_of(own.caller, own.frame);

@@ -16,7 +16,7 @@ END
 try_large() {
     local library=$1 name="$1: 10 ranks of 1,000,000 calls" seconds processor megabytes calls part
     prepare "$library" million-calls.c 10
-    run_with "${command[@]}"
+    run_with --window 0 "${command[@]}"
     expect_status "$name" 0
     for calls in strict went; do
         measure_use "${MPIWAIT:-$here/../mpiwait}" judge --json "--calls=$calls" "$work/run/journal"

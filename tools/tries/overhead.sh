@@ -9,15 +9,17 @@
 times=${TIMES:-9}              # how often each loop is measured
 most_in_c=3 most_in_others=11 # lines: what recording may add to a call
 
-# Lines with the name of each loop, a tab and nanoseconds. With `recorder' and `strict' it is recorded.
+# Lines with the name of each loop, a tab and nanoseconds. With `recorded', `strict' and `windows' it is
+# recorded.
 measure_once() {
     local library=$1 kind=$2 words=()
-    if [[ $kind == recorded || $kind == strict ]]; then
+    if [[ $kind == recorded || $kind == strict || $kind == windows ]]; then
         rm -rf -- "$work/measured"
         mkdir -p -- "$work/measured"
         words=(env LD_PRELOAD="$here/record/out/$library/record.so" MPIWAIT_JOURNAL="$work/measured")
     fi
     [[ $kind != strict ]] || words+=(MPIWAIT_STRICT=1)
+    [[ $kind != windows ]] || words+=(MPIWAIT_WINDOW=200000)
     words+=("${command[@]}")
     [[ $kind != line ]] || words=("$work/yardstick")
     timeout 300 "${words[@]}" </dev/null 2>>"$work/errors" | grep $'\t'
@@ -39,23 +41,24 @@ idle_processors() {
 }
 
 # One program: lines with library, language, processors that were idle, the cost of a line, the loop, plain,
-# recorded and strict.
+# recorded, strict and with windows.
 measure() {
     local library=$1 language=$2 source=$3 time kind idle
     is_measured=yes
     prepare "$library" "$source" 2 || return 0
     is_measured=''
-    for kind in plain recorded strict line; do
+    for kind in plain recorded strict windows line; do
         : >"$work/$kind"
     done
     idle=$(idle_processors)
     for ((time = 0; time < times; time++)); do
-        for kind in plain recorded strict line; do
+        for kind in plain recorded strict windows line; do
             measure_once "$library" "$kind" >>"$work/$kind" ||
                 fails "$library: $source, $kind: it failed: $(tail -n 3 -- "$work/errors")"
         done
     done
-    paste <(least "$work/plain") <(least "$work/recorded" | cut -f 2) <(least "$work/strict" | cut -f 2) |
+    paste <(least "$work/plain") <(least "$work/recorded" | cut -f 2) <(least "$work/strict" | cut -f 2) \
+        <(least "$work/windows" | cut -f 2) |
         sed "s/^/$library\t$language\t$idle\t$(least "$work/line" | cut -f 2)\t/"
 }
 
@@ -82,15 +85,15 @@ judge_loop() {
 }
 
 try_overhead() {
-    local library language idle line loop plain recorded strict most
+    local library language idle line loop plain recorded strict windows most
     for library in "$@"; do
         measure_library "$library"
     done >"$work/measures"
     echo "overhead: nanoseconds a call, the best of $times, on $(nproc) processors"
-    echo '| language | loop | library | plain | recorded | strict | a line | idle processors |'
-    echo '|---|---|---|---|---|---|---|---|'
-    while IFS=$'\t' read -r library language idle line loop plain recorded strict; do
-        echo "| $language | $loop | $library | $plain | $recorded | $strict | $line | $idle |"
+    echo '| language | loop | library | plain | recorded | strict | windows | a line | idle processors |'
+    echo '|---|---|---|---|---|---|---|---|---|'
+    while IFS=$'\t' read -r library language idle line loop plain recorded strict windows; do
+        echo "| $language | $loop | $library | $plain | $recorded | $strict | $windows | $line | $idle |"
         most=$most_in_others
         [[ $language != C ]] || most=$most_in_c
         judge_loop "$library: $language: $loop" $((recorded - plain)) "$most" "$line" "$idle"

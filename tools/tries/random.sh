@@ -37,9 +37,9 @@ try_cuts() {
     prepare "$library" masters.c 4
     run_with "${command[@]}"
     expect_status "$name nowhere" 0
-    for journal in "$work/run/journal"/journal*; do
+    for journal in "$(journals)"/journal*; do
         rm -rf -- "$work/cut"
-        cp -r -- "$work/run/journal" "$work/cut"
+        cp -r -- "$(journals)" "$work/cut"
         lines=$(tr -d '\0' <"$journal" | wc -l)
         for ((at = 2; at < lines; at++)); do
             head -n "$at" "$journal" | sed '1s/ o / i /' >"$work/cut/${journal##*/}"

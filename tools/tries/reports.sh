@@ -4,15 +4,22 @@
 # What the program and its launcher wrote comes before the report; how often a test found nothing differs from
 # run to run, and so do the names of folders.
 report_in() {
-    sed -n '/^Run 1 of \|^verdict \|^no verdict\|^not judged\|^refused /,$p' "$1" |
+    sed -n '/^Run 1 of \|^Window \|^verdict \|^no verdict\|^not judged\|^refused /,$p' "$1" |
         sed "/^Only counted/,/^\$/d; s:$work:WORK:g" |
         sed -E 's/\([0-9,]+ times, found nothing\)/(N times, found nothing)/'
+}
+
+# The folder of the journals, or of those of the first window.
+journals() {
+    local folder=$work/run/journal
+    [[ ! -d $folder/1 ]] || folder+=/1
+    echo "$folder"
 }
 
 # Journals are as their format has them.
 check_journals() {
     local name=$1 folder
-    for folder in "$work/run/journal" "$work/run/journal"/run-*; do
+    for folder in "$work/run/journal" "$work/run/journal"/run-* "$work/run/journal"/[0-9]*; do
         [[ -e $folder/journal0 ]] || continue
         recordings=$((recordings + 1))
         # A release has no bench/.

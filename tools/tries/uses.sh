@@ -34,7 +34,7 @@ wait_until() {
 # ---- Signals --------------------------------------------------------------------------------------
 
 has_begun() {
-    grep -aq '^send' "$work/run/journal/journal0" && grep -aq '^send' "$work/run/journal/journal1"
+    grep -aq '^send' "$(journals)/journal0" && grep -aq '^send' "$(journals)/journal1"
 }
 
 is_left_over() {
@@ -309,7 +309,7 @@ try_no_memory() {
 try_bounds() {
     local library=$1 name="$1: the size of a journal" lines bytes
     prepare "$library" many-wildcards.c 1
-    run_with "${command[@]}"
+    run_with --window 0 "${command[@]}"
     check_journals "$name"
     lines=$(tr -d '\0' <"$work/run/journal/journal0" | wc -l)
     bytes=$(stat -c %s "$work/run/journal/journal0")

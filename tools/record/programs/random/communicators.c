@@ -209,7 +209,7 @@ void step_make(void) {
     case 0: make_idup(comm, parent); break;
     case 1: make_split(comm, parent); break;
     case 2: make_of_group(comm, parent); break;
-    case 3: make_inter(comm, parent); break;
+    case 3: has_pauses ? make_split(comm, parent) : make_inter(comm, parent); break;
     default: make_like(comm, parent);
     }
 }

@@ -1,5 +1,5 @@
-/* random-program SEED [STEPS [fault]]: runs a random program that can't deadlock, or one with a fault put in.
- * See random.h. */
+/* random-program SEED [STEPS [fault|pauses]]: runs a random program that can't deadlock, or one with a fault
+ * put in. With `pauses` nothing is under way now and then but a receive. See random.h. */
 #include "random.h"
 #include <stdio.h>
 #include <string.h>
@@ -20,6 +20,7 @@ static const struct {
     {step_self, 1, true},       {step_cancelled, 2, true},          {step_kept, 1, true},
     {step_look, 2, true},
 };
+enum { PAUSE = 7 }; /* steps between two of them */
 enum { KINDS = sizeof steps / sizeof *steps };
 
 static void (*any_step(void))(void) {
@@ -31,6 +32,8 @@ static void (*any_step(void))(void) {
     } while (is_faulty && !steps[at].with_fault);
     return steps[at].step;
 }
+
+static MPI_Comm between; /* for the messages of pauses */
 
 static void begin(unsigned seed) {
     MPI_Comm_rank(MPI_COMM_WORLD, &me);
@@ -46,6 +49,8 @@ static void begin(unsigned seed) {
     }
     MPI_Buffer_attach(malloc(BUFFER), BUFFER);
     MPI_Comm_dup(MPI_COMM_WORLD, &bridge);
+    if (has_pauses)
+        MPI_Comm_dup(MPI_COMM_WORLD, &between);
     begin_wildcards();
 }
 
@@ -59,9 +64,25 @@ static void end(void) {
             MPI_Comm_free(&comms[comm].handle);
     end_wildcards();
     MPI_Comm_free(&bridge);
+    if (has_pauses)
+        MPI_Comm_free(&between);
     MPI_Buffer_detach(&buffer, &size);
     free(buffer);
     MPI_Barrier(MPI_COMM_WORLD); /* MPICH's MPI_Finalize doesn't help others to detach theirs */
+}
+
+/* A receive from anybody is active from one pause to the next. */
+static void pause_all(bool goes_on) {
+    static MPI_Request early = MPI_REQUEST_NULL;
+    static int got;
+    finish_all();
+    MPI_Barrier(MPI_COMM_WORLD);
+    if (early != MPI_REQUEST_NULL) {
+        MPI_Send(&me, 1, MPI_INT, (me + 1) % ranks, 0, between);
+        MPI_Wait(&early, MPI_STATUS_IGNORE);
+    }
+    if (goes_on)
+        MPI_Irecv(&got, 1, MPI_INT, MPI_ANY_SOURCE, MPI_ANY_TAG, between, &early);
 }
 
 /* In a program with a fault communicators are made before it alone, since no rank may lack one. */
@@ -74,6 +95,8 @@ static void run(int count) {
         if (i == late)
             fault = kind;
         any_step()();
+        if (has_pauses && i % PAUSE == PAUSE - 1)
+            pause_all(i + PAUSE < count);
     }
 }
 
@@ -86,6 +109,7 @@ int main(int argc, char **argv) {
     else
         MPI_Init_thread(&argc, &argv, levels[seed % 4], &level);
     is_faulty = argc > 3 && strcmp(argv[3], "fault") == 0;
+    has_pauses = argc > 3 && strcmp(argv[3], "pauses") == 0;
     begin(seed);
     if (ranks > MOST_RANKS || ranks < 2) {
         fputs("random-program: it takes 2 to 16 ranks\n", stderr);

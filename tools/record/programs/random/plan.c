@@ -11,7 +11,7 @@ Open opens[MOST_OPEN];
 int open_count;
 MPI_Comm bridge;
 Fault fault;
-bool is_faulty;
+bool is_faulty, has_pauses;
 
 static uint64_t shared, own;
 static int tags;

@@ -71,6 +71,9 @@ typedef enum {
 extern Fault fault;    /* the next one, until a step has it */
 extern bool is_faulty; /* whether one is put in somewhere: then all messages are of one number */
 
+/* Whether nothing is under way now and then: then there are no intercommunicators. */
+extern bool has_pauses;
+
 /* A program with a fault has few wildcards: what hangs by another rank's message is then known. */
 static inline int any_source(int source) { return is_faulty ? source : MPI_ANY_SOURCE; }
 static inline int any_tag(int tag) { return is_faulty ? tag : MPI_ANY_TAG; }

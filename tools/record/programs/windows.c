@@ -1,0 +1,120 @@
+/* windows STEPS [WAY AT [REST]]: each rank exchanges halos with its neighbours, and all sum up after each 10
+ * steps. A receive from anybody is active throughout. After a step it rests REST microseconds. At step AT the
+ * ranks may do otherwise. `head`: ranks 0 and 1 send to each other before they receive; rank 0 writes `end`
+ * at its end. `hang`: rank 0 receives what nobody sends, and writes when. `under`, `self`, `alone`, `probed`,
+ * `matched`: from there on a message is under way at each sum: to a neighbour, to oneself, on MPI_COMM_SELF,
+ * one that a probe saw or took. `orders`: two communicators that not all ranks number alike. `file`: a call
+ * that isn't recorded. `threads`: MPI_THREAD_MULTIPLE, from the beginning. */
+#include <mpi.h>
+#include <stdio.h>
+#include <stdlib.h>
+#include <string.h>
+#include <time.h>
+
+enum { TO_LEFT = 1, TO_RIGHT = 2, LATE = 3, NEVER = 4, HEAD = 5 };
+static int me, ranks;
+static const char *way = "";
+
+static void rest(long microseconds) {
+    struct timespec time = {.tv_nsec = microseconds * 1000};
+    if (microseconds > 0)
+        nanosleep(&time, NULL);
+}
+
+static void exchange(void) {
+    MPI_Request requests[4];
+    int in[2], left = (me + ranks - 1) % ranks, right = (me + 1) % ranks;
+    MPI_Irecv(&in[0], 1, MPI_INT, left, TO_RIGHT, MPI_COMM_WORLD, &requests[0]);
+    MPI_Irecv(&in[1], 1, MPI_INT, right, TO_LEFT, MPI_COMM_WORLD, &requests[1]);
+    MPI_Isend(&me, 1, MPI_INT, right, TO_RIGHT, MPI_COMM_WORLD, &requests[2]);
+    MPI_Isend(&me, 1, MPI_INT, left, TO_LEFT, MPI_COMM_WORLD, &requests[3]);
+    MPI_Waitall(4, requests, MPI_STATUSES_IGNORE);
+}
+
+static int is(const char *word) { return strcmp(way, word) == 0; }
+
+/* A message is under way while all sum up. */
+static void sum_up_under_way(void) {
+    MPI_Comm comm = is("alone") ? MPI_COMM_SELF : MPI_COMM_WORLD;
+    int to = is("alone") ? 0 : is("self") ? me : (me + 1) % ranks;
+    int from = is("alone") ? 0 : is("self") ? me : (me + ranks - 1) % ranks, mine = 1, all, in;
+    MPI_Request request;
+    MPI_Message message;
+    MPI_Isend(&me, 1, MPI_INT, to, HEAD, comm, &request);
+    if (is("probed"))
+        MPI_Probe(from, HEAD, comm, MPI_STATUS_IGNORE);
+    if (is("matched"))
+        MPI_Mprobe(from, HEAD, comm, &message, MPI_STATUS_IGNORE);
+    MPI_Allreduce(&mine, &all, 1, MPI_INT, MPI_SUM, MPI_COMM_WORLD);
+    if (is("matched"))
+        MPI_Mrecv(&in, 1, MPI_INT, &message, MPI_STATUS_IGNORE);
+    else
+        MPI_Recv(&in, 1, MPI_INT, from, HEAD, comm, MPI_STATUS_IGNORE);
+    MPI_Wait(&request, MPI_STATUS_IGNORE);
+}
+
+static MPI_Comm pair[2];
+
+/* Rank 0 has the second one first. */
+static void make_pair(void) {
+    MPI_Request requests[2];
+    MPI_Comm_idup(MPI_COMM_WORLD, &pair[0], &requests[0]);
+    MPI_Comm_idup(MPI_COMM_WORLD, &pair[1], &requests[1]);
+    MPI_Wait(&requests[me == 0], MPI_STATUS_IGNORE);
+    MPI_Wait(&requests[me != 0], MPI_STATUS_IGNORE);
+}
+
+static void sum_up(void) {
+    int mine = 1, all;
+    MPI_Allreduce(&mine, &all, 1, MPI_INT, MPI_SUM, MPI_COMM_WORLD);
+    if (is("orders")) {
+        MPI_Barrier(pair[0]);
+        MPI_Bcast(&all, 1, MPI_INT, 0, pair[1]);
+    }
+}
+
+static void do_otherwise(void) {
+    int in;
+    MPI_File file;
+    if (is("hang") && me == 0) {
+        fprintf(stderr, "hang at %ld\n", (long)time(NULL));
+        MPI_Recv(&in, 1, MPI_INT, 1, NEVER, MPI_COMM_WORLD, MPI_STATUS_IGNORE);
+    }
+    if (is("head") && me < 2) {
+        MPI_Send(&me, 1, MPI_INT, 1 - me, HEAD, MPI_COMM_WORLD);
+        MPI_Recv(&in, 1, MPI_INT, 1 - me, HEAD, MPI_COMM_WORLD, MPI_STATUS_IGNORE);
+    }
+    if (is("file")) {
+        MPI_File_open(MPI_COMM_SELF, "/dev/null", MPI_MODE_RDONLY, MPI_INFO_NULL, &file);
+        MPI_File_close(&file);
+    }
+}
+
+int main(int argc, char **argv) {
+    long steps = argc > 1 ? atol(argv[1]) : 1000, at = argc > 3 ? atol(argv[3]) : -1;
+    long pause = argc > 4 ? atol(argv[4]) : 0;
+    int in, level;
+    MPI_Request late;
+    way = argc > 2 ? argv[2] : "";
+    int is_under = is("under") || is("self") || is("alone") || is("probed") || is("matched");
+    MPI_Init_thread(&argc, &argv, is("threads") ? MPI_THREAD_MULTIPLE : MPI_THREAD_SINGLE, &level);
+    MPI_Comm_rank(MPI_COMM_WORLD, &me);
+    MPI_Comm_size(MPI_COMM_WORLD, &ranks);
+    if (is("orders"))
+        make_pair();
+    MPI_Irecv(&in, 1, MPI_INT, MPI_ANY_SOURCE, LATE, MPI_COMM_WORLD, &late);
+    for (long step = 0; step < steps; step++) {
+        exchange();
+        rest(pause);
+        if (step == at)
+            do_otherwise();
+        if (step % 10 == 9)
+            is_under && step >= at ? sum_up_under_way() : sum_up();
+    }
+    MPI_Send(&me, 1, MPI_INT, (me + 1) % ranks, LATE, MPI_COMM_WORLD);
+    MPI_Wait(&late, MPI_STATUS_IGNORE);
+    if (is("head") && me == 0)
+        fprintf(stderr, "end\n");
+    MPI_Finalize();
+    return 0;
+}
