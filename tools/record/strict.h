@@ -1,6 +1,7 @@
 /* Strict runs: standard sends are passed on as synchronous ones, and a barrier follows each blocking
  * collective call except a barrier. MPI allows both (MPI 4.0, sections 3.4 and 6.1). So a correct program
- * runs to its end, and one that needs buffers hangs at the call that needs them. */
+ * runs to its end, and one that needs buffers hangs at the call that needs them. While a call waits, receives
+ * with wildcards are asked what they got, which a verdict needs. */
 #ifndef MPIWAIT_STRICT_H
 #define MPIWAIT_STRICT_H
 

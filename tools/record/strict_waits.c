@@ -15,8 +15,7 @@
 enum {
     BETWEEN = 20,      /* milliseconds from one time that all are asked to the next */
     MOST = 60000,      /* milliseconds until MPI waits for several requests itself */
-    LOOKS = 32,        /* how often it looks for what the call waits for before it reads the clock */
-    BUSY_LOOKS = 1024, /* how often before it lets other processes run after each look */
+    BUSY_LOOKS = 1024, /* how often it looks for what the call waits for before it lets others run */
 };
 
 /* ---- Errors ------------------------------------------------------------------------------------ */
@@ -89,10 +88,9 @@ static Looks begin_looks(void) {
 
 /* After a look that found nothing: whether there are still requests to be asked. */
 static bool look_again(Looks *looks) {
-    bool is_busy = ++looks->count <= BUSY_LOOKS;
-    if (!is_busy)
+    if (++looks->count > BUSY_LOOKS)
         sched_yield();
-    long now = is_busy && looks->count % LOOKS != 0 ? looks->last : milliseconds();
+    long now = milliseconds();
     if (now - looks->last < BETWEEN)
         return true;
     looks->last = now;
