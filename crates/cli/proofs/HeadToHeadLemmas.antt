@@ -47,7 +47,7 @@ use Rattle.cli.specs.Outputs.{Written, Becomes, Writes}
 use Rattle.cli.specs.Statuses.{status_of_verdict}
 use Rattle.cli.specs.Texts.{IsFaultOfCheck, IsHeadOf}
 use Rattle.cli.specs.declared.fault.Fault.{Fault}
-use Rattle.cli.specs.declared.fault.Fault.TheVariants.{RefusedJournal, Head, FileCount, Refused, LintRefused}
+use Rattle.cli.specs.declared.fault.Fault.TheVariants.{RefusedJournal, UncleanCut, Head, FileCount, Refused, LintRefused}
 use Rattle.cli.specs.declared.status.Status.{Status}
 use Rattle.cli.specs.declared.status.Status.TheVariants as status
 use Rattle.cli.specs.declared.command_line.CommandLine.{CommandLine}
