@@ -21,4 +21,5 @@ pub mod Sinks
 pub mod Steps
 pub mod Table
 pub mod Texts
+pub mod ToldOutcomes
 pub mod inner

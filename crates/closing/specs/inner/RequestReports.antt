@@ -1,15 +1,11 @@
 -- What is kept of the requests of a journal, against what its lines say of them.
 use Rattle.std.specs.Prelude.{◌≡◌, ℕ, ◌≤◌, ◌<◌, ◌^◌, List, [], ◌∷◌, length}
 use Rattle.journals.specs.Lines.{Line}
-use Rattle.closing.specs.Reported.{done_in, done_of, says_gone, says_kept}
-use Rattle.closing.specs.Reported as say
+pub use Rattle.closing.specs.ToldOutcomes.{Tells}
 use Rattle.closing.specs.Fit.{AreFormed, report_count}
 use Rattle.closing.specs.Entry.{id_of}
 use Rattle.closing.specs.Steps.{Own}
-use Rattle.closing.specs.inner.Outcomes.{outcome_at, message_by}
-use Rattle.closing.specs.inner.Outcomes as kept
 use Rattle.closing.specs.inner.Standings.{id_in}
-use Rattle.closing.specs.declared.outcomes.Outcomes.{Outcomes}
 use Rattle.closing.specs.declared.standing.Standing.{Standing}
 
 -- there are no more lines than can be counted, and of each request it is reported once at most what came of it
@@ -17,14 +13,6 @@ pub record AreReadable (lines : List Line) : Type 0 where
   pub few : length lines < 2 ^ 32
   pub formed : AreFormed lines
   pub once : (request : ℕ) → report_count lines request ≤ 1
-
--- what is kept says what the lines report
-pub record Tells (lines : List Line) (it : Outcomes) : Type 0 where
-  pub done : (request : ℕ) → message_by lines (outcome_at it request) ≡ done_of lines request
-  pub gone : (request : ℕ) → kept.is_gone (outcome_at it request) ≡ say.is_gone lines request
-  pub moved : (request : ℕ) → kept.is_moved (outcome_at it request) ≡ say.is_moved lines request
-  pub left_out : (request : ℕ) → kept.is_left_out (outcome_at it request) ≡ say.is_left_out lines request
-  pub settled : (request : ℕ) → kept.is_settled (outcome_at it request) ≡ say.is_settled lines request
 
 -- what is kept of a request in the trace is what these lines say: itself, or the message that it takes
 abbrev pub StandsFor : List Line → Standing → ℕ → Type 0
