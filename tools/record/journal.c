@@ -7,6 +7,7 @@
 #include <stdio.h>
 #include <string.h>
 #include <sys/mman.h>
+#include <sys/stat.h>
 #include <unistd.h>
 
 enum {
@@ -21,6 +22,7 @@ bool recording, journal_is_full;
 
 static struct {
     int file, rank;
+    Identity identity;
     bool is_open;
     long calls;
     off_t start; /* where the window begins in the file */
@@ -41,6 +43,15 @@ int create_text(const char *folder, const char *name, int rank) {
     if (snprintf(path, sizeof path, "%s/%s%d", folder, name, rank) >= (int)sizeof path)
         return -1;
     return open(path, O_RDWR | O_CREAT | O_EXCL | O_CLOEXEC, 0666);
+}
+
+bool is_still_ours(int file, Identity *identity) {
+    struct stat now;
+    if (fstat(file, &now) != 0)
+        return false;
+    if (!identity->is_known)
+        *identity = (Identity){true, now.st_dev, now.st_ino};
+    return now.st_dev == identity->device && now.st_ino == identity->place;
 }
 
 /* Room on the disk is reserved first: a write into mapped memory can't return an error. */
@@ -103,9 +114,12 @@ static bool has_room(int fields) {
         journal_stop("a call names more ranks than a line of the journal holds");
         return false;
     }
-    if (journal.window + journal.size - journal.at >= LONGEST_LINE + LONGEST_STOP || move_window())
+    if (journal.window + journal.size - journal.at >= LONGEST_LINE + LONGEST_STOP)
         return true;
-    journal_stop("there is no room for its journal");
+    bool is_ours = is_still_ours(journal.file, &journal.identity);
+    if (is_ours && move_window())
+        return true;
+    journal_stop(is_ours ? "there is no room for its journal" : "the program closed its journal");
     return false;
 }
 
@@ -227,7 +241,8 @@ void journal_stop(const char *why) {
 }
 
 void journal_close(void) {
-    if (journal.is_open && ftruncate(journal.file, place()) != 0)
+    bool is_open = journal.is_open && is_still_ours(journal.file, &journal.identity);
+    if (is_open && ftruncate(journal.file, place()) != 0)
         fprintf(stderr, "mpiwait-record: rank %d: its journal couldn't be cut to its length\n", journal.rank);
     journal.is_open = false;
 }
@@ -254,7 +269,8 @@ const char *journal_open(const char *folder, const char *id, int rank, int ranks
         return errno == EEXIST ? "an MPI program before it was recorded in the same folder"
                                : "no journal can be made in the folder that MPIWAIT_JOURNAL names";
     const char *why = counts_open(folder, rank);
-    if (why || !move_window() || !put_header(id, ranks, library))
+    bool has_file = is_still_ours(journal.file, &journal.identity);
+    if (why || !has_file || !move_window() || !put_header(id, ranks, library))
         return "there is no room for its journal";
     journal.is_open = true;
     return NULL;
