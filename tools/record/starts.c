@@ -97,12 +97,16 @@ int MPI_Request_free(MPI_Request *handle) {
 }
 ALSO_PMPI(Request_free)
 
+/* If it fails, nothing is reported of what became of the request. */
 int MPI_Cancel(MPI_Request *handle) {
     Request *request = BEGINS_QUIETLY ? requests_find(bits(*handle)) : NULL;
-    if (request && request->active && request->number) {
-        request->cancelled = true;
+    bool is_put = request && request->active && request->number;
+    if (is_put)
         put_each("cancel", request);
-    }
-    return over(CALL(Cancel, (handle)));
+    int result = CALL(Cancel, (handle));
+    request = is_put && is_recorded() && result == MPI_SUCCESS ? requests_find(bits(*handle)) : NULL;
+    if (request)
+        request->cancelled = true;
+    return over(result);
 }
 ALSO_PMPI(Cancel)
