@@ -1,5 +1,5 @@
-/* Errors that are returned. Without a word: a wait for a receive that fails, and for a communicator that comes
- * to be. With one: a cancel of a request that can't be cancelled, and a wait for it. */
+/* Errors that are returned. Without a word: a wait for a receive that fails, and for a communicator that
+ * comes to be. With one: a cancel of a request that can't be cancelled, and a wait for it. */
 #include <mpi.h>
 
 static void wait_for_both(int data[2]) {
