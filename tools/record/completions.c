@@ -199,7 +199,8 @@ static MPI_Comm made_by(const Request *request) {
     return request->comm ? (MPI_Comm)request->comm : MPI_COMM_NULL;
 }
 
-static void finish(uintptr_t handle, const MPI_Status *status) {
+/* A communicator can't be reported after a wait that failed. */
+static void finish(uintptr_t handle, const MPI_Status *status, bool failed) {
     Request *request = requests_find(handle);
     if (!request || !request->active)
         return;
@@ -209,14 +210,15 @@ static void finish(uintptr_t handle, const MPI_Status *status) {
     MPI_Comm made = made_by(request);
     uint64_t origin = request->origin;
     drop(handle);
-    if (number && made != MPI_COMM_NULL)
+    if (number && made != MPI_COMM_NULL && !failed)
         adopt_duplicate(number, made, origin);
 }
 
 /* The requests at these places (NULL: all) completed. */
 static void finish_all(const Asked *asked, int count, const int places[]) {
     for (int i = 0; i < count; i++)
-        finish(asked->requests[places ? places[i] : i].handle, asked->needed ? &asked->place[i] : NULL);
+        finish(asked->requests[places ? places[i] : i].handle, asked->needed ? &asked->place[i] : NULL,
+               false);
 }
 
 /* The call returned an error. The statuses may say that some requests completed; other handles may be null
@@ -229,7 +231,7 @@ static void sort_out(const Asked *asked, int result, const MPI_Request handles[]
     journal_failed();
     for (int i = 0; i < asked->count; i++) {
         if (is_known && asked->place[i].MPI_ERROR == MPI_SUCCESS)
-            finish(asked->requests[i].handle, &asked->place[i]);
+            finish(asked->requests[i].handle, &asked->place[i], true);
         else if (asked->requests[i].handle != 0 && bits(handles[i]) == 0)
             drop(asked->requests[i].handle);
     }
@@ -256,7 +258,7 @@ static void none_active(Asked *asked) {
     if (all > chosen && asked->line != WAIT_LINE)
         journal_call("test", all - chosen, asked->packed + chosen, site());
     for (int i = 0; i < asked->count; i++)
-        finish(asked->requests[i].handle, NULL);
+        finish(asked->requests[i].handle, NULL, false);
 }
 
 /* ---- Waits ------------------------------------------------------------------------------------- */

@@ -29,6 +29,7 @@ static struct {
 
 typedef struct {
     int file, rank, number; /* of its window, or 0 */
+    Identity identity;
     bool is_open;
     long calls;
     off_t start; /* where the window begins in the file */
@@ -53,6 +54,15 @@ int create_text(const char *folder, const char *name, int rank) {
     if (snprintf(path, sizeof path, "%s/%s%d", folder, name, rank) >= (int)sizeof path)
         return -1;
     return open(path, O_RDWR | O_CREAT | O_EXCL | O_CLOEXEC, 0666);
+}
+
+bool is_still_ours(int file, Identity *identity) {
+    struct stat now;
+    if (fstat(file, &now) != 0)
+        return false;
+    if (!identity->is_known)
+        *identity = (Identity){true, now.st_dev, now.st_ino};
+    return now.st_dev == identity->device && now.st_ino == identity->place;
 }
 
 /* Room on the disk is reserved first: a write into mapped memory can't return an error. */
@@ -115,9 +125,12 @@ static bool has_room(int fields) {
         journal_stop("a call names more ranks than a line of the journal holds");
         return false;
     }
-    if (journal.window + journal.size - journal.at >= LONGEST_LINE + LONGEST_STOP || move_window())
+    if (journal.window + journal.size - journal.at >= LONGEST_LINE + LONGEST_STOP)
         return true;
-    journal_stop("there is no room for its journal");
+    bool is_ours = is_still_ours(journal.file, &journal.identity);
+    if (is_ours && move_window())
+        return true;
+    journal_stop(is_ours ? "there is no room for its journal" : "the program closed its journal");
     return false;
 }
 
@@ -242,7 +255,8 @@ void journal_stop(const char *why) {
 }
 
 void journal_close(void) {
-    if (journal.is_open && ftruncate(journal.file, place()) != 0)
+    bool is_open = journal.is_open && is_still_ours(journal.file, &journal.identity);
+    if (is_open && ftruncate(journal.file, place()) != 0)
         fprintf(stderr, "mpiwait-record: rank %d: its journal couldn't be cut to its length\n", journal.rank);
     journal.is_open = false;
 }
@@ -279,7 +293,8 @@ static const char *begin_journal(int rank, int window, bool is_first) {
                                : "no journal can be made in the folder that MPIWAIT_JOURNAL names";
     if (is_first && counts_open(run.folder, rank))
         return no_room;
-    journal.is_open = move_window() && put_header();
+    bool has_file = is_still_ours(journal.file, &journal.identity);
+    journal.is_open = has_file && move_window() && put_header();
     return journal.is_open ? NULL : no_room;
 }
 
@@ -314,7 +329,8 @@ void journal_cut(void) {
     journal_close();
     munmap(journal.window, journal.size);
     munmap(journal.header, sysconf(_SC_PAGESIZE));
-    close(journal.file);
+    if (is_still_ours(journal.file, &journal.identity))
+        close(journal.file);
     journal = next;
     journal_begin();
 }

@@ -124,6 +124,14 @@ void left_out(Meaning meaning, const char *what);
 int create_text(const char *folder, const char *name, int rank);
 char *map_text(int file, long start, unsigned long size);
 
+/* Whether a file number is still that of the same file as in the first call for it. A program may close all
+ * files, and then open one of its own, which has the number of ours. */
+typedef struct {
+    bool is_known;
+    unsigned long device, place;
+} Identity;
+bool is_still_ours(int file, Identity *identity);
+
 enum { LONGEST_ID = 40 };
 
 /* The ID of the run and the rank, if the launcher gives them before MPI begins. */

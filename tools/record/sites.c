@@ -19,6 +19,7 @@
 enum { MOST_FRAMES = 16, MOST_WALKED = 32, PLACES = 1 << 16, MOST_SITES = PLACES / 4 };
 
 static FILE *sites;
+static Identity sites_file, names_file;
 static char names_path[4096]; /* empty once the file is there or can't be */
 static FILE *names;
 static int frames_wanted, sites_known;
@@ -38,6 +39,13 @@ static int *look_up(uint64_t key) {
         return NULL;
     known[place].key = key;
     return &known[place].site;
+}
+
+/* Whether a text is there to be written to. */
+static bool is_open(FILE **file, Identity *identity) {
+    if (*file && !is_still_ours(fileno(*file), identity))
+        *file = NULL;
+    return *file;
 }
 
 static uint64_t mixed(uint64_t hash, uint64_t more) { return (hash ^ more) * 0x100000001b3u + 1; }
@@ -160,7 +168,7 @@ static void put_frame(void *address) {
 
 static int site_of_frames(uint64_t key, void *const frames[], int count) {
     int *site = look_up(key);
-    if (!site || *site || count == 0)
+    if (!site || *site || count == 0 || !is_open(&sites, &sites_file))
         return site ? *site : 0;
     fprintf(sites, "%d", ++sites_known);
     for (int i = 0; i < count; i++)
@@ -189,7 +197,7 @@ int site_of_line(const char *file, int line) {
     for (const char *at = file; *at; at++)
         key = mixed(key, (unsigned char)*at);
     int *site = look_up(key);
-    if (!site || *site)
+    if (!site || *site || !is_open(&sites, &sites_file))
         return site ? *site : 0;
     fprintf(sites, "%d\t", ++sites_known);
     put_name(sites, file);
@@ -205,7 +213,7 @@ void sites_open(const char *folder, int rank) {
     snprintf(names_path, sizeof names_path, "%s/names%d", folder, rank);
     snprintf(path, sizeof path, "%s/sites%d", folder, rank);
     sites = frames_wanted > 0 ? fopen(path, "wxe") : NULL;
-    if (!sites)
+    if (!is_open(&sites, &sites_file))
         return;
     setvbuf(sites, NULL, _IOLBF, 0);
     find_python();
@@ -218,7 +226,7 @@ void name_communicator(int number, const char *name) {
             setvbuf(names, NULL, _IOLBF, 0);
         *names_path = '\0';
     }
-    if (!names)
+    if (!is_open(&names, &names_file))
         return;
     fprintf(names, "%d ", number);
     put_name(names, name);

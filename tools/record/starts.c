@@ -105,13 +105,18 @@ int MPI_Request_free(MPI_Request *handle) {
 }
 ALSO_PMPI(Request_free)
 
+/* If it fails, nothing is reported of what became of the request. */
 int MPI_Cancel(MPI_Request *handle) {
     Request *request = BEGINS_QUIETLY ? requests_find(bits(*handle)) : NULL;
-    if (request && request->active && request->number) {
+    bool is_put = request && request->active && request->number;
+    if (is_put)
+        put_each("cancel", request);
+    int result = CALL(Cancel, (handle));
+    request = is_put && is_recorded() && result == MPI_SUCCESS ? requests_find(bits(*handle)) : NULL;
+    if (request) {
         request->cancelled = true;
         request_opens(request);
-        put_each("cancel", request);
     }
-    return over(CALL(Cancel, (handle)));
+    return over(result);
 }
 ALSO_PMPI(Cancel)
