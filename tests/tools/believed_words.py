@@ -57,7 +57,8 @@ def definitions(texts):
         heads = list(re.finditer(r"^module .*", text, re.M))
         starts = list(DEFINED.finditer(text))
         ends = sorted([one.start() for one in starts + heads] + [len(text)])
-        own = {one[1] or one[2]: (crate, module.replace("/", "."), one[1] or one[2]) for one in starts}
+        module = module.replace("/", ".")
+        own = {one[1] or one[2]: (crate, module, one[1] or one[2]) for one in starts}
         blocks = {}
         for one in starts:
             block = text[one.start() : next(end for end in ends if end > one.start())]
@@ -73,6 +74,8 @@ def definitions(texts):
         found.update((name, {of}) for name, of in passed_on(text, crate, module.replace("/", ".")))
         for name, block in blocks.items():
             found[own[name]] = {known[word] for word in words(block) if word in known} | {own[name]}
+        for name, meant in imports("\n".join(re.findall(r"^pub use .*", text, re.M))).items():
+            found[crate, module, name] = {meant}
     return found
 
 

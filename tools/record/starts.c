@@ -89,7 +89,8 @@ static void put_each(const char *word, const Request *request) {
 /* Whether it isn't known what becomes of one that is freed. */
 static bool is_unknown(const Request *request) {
     bool receives = request->message || (request->receive.is_there && request->receive.source != NULL_PEER);
-    return request->active && (receives || request->cancelled || request->comm || request->place);
+    bool is_open = receives || request->cancelled || request->comm || request->place;
+    return request->active && !request->told && is_open;
 }
 
 int MPI_Request_free(MPI_Request *handle) {
@@ -105,10 +106,11 @@ int MPI_Request_free(MPI_Request *handle) {
 }
 ALSO_PMPI(Request_free)
 
-/* If it fails, nothing is reported of what became of the request. */
+/* If it fails, nothing is reported of what became of the request. One of which that is already written has
+ * no line: in a later window it is no receive any more. */
 int MPI_Cancel(MPI_Request *handle) {
     Request *request = BEGINS_QUIETLY ? requests_find(bits(*handle)) : NULL;
-    bool is_put = request && request->active && request->number;
+    bool is_put = request && request->active && request->number && !request->told;
     if (is_put)
         put_each("cancel", request);
     int result = CALL(Cancel, (handle));

@@ -56,6 +56,17 @@ expect_no_windows() {
     [[ $(journals) != */1 ]] || fails "$1: there are windows"
 }
 
+# What a receive from anybody got is asked in a send that waits; its own wait comes windows later.
+try_asked_window() {
+    local name="$1: windows.c asked, strict" lines
+    run_with --window 100 --strict --keep "${command[@]}" 100 asked 45
+    expect_windows "$name" 0 2 'verdict free'
+    cat -- "$work/run/journal"/[0-9]*/journal0 | tr -d '\0' >"$work/lines"
+    lines=$(grep -A 1 '^send 0 1 ' "$work/lines" | grep -c '^=done 1 2 3')
+    lines+=" $(grep -o '^isend [0-9]* 0 null' "$work/lines" | sort -u)"
+    [[ $lines == '1 isend 1 0 null' ]] || fails "$name: not asked there, or another request goes on: $lines"
+}
+
 # Random programs have the verdict that they have without windows.
 try_random_windows() {
     local library=$1 seed found=0 unknown=0 right=0 hung
@@ -182,6 +193,7 @@ try_windows() {
     grep -q 'MPI_Irecv at .*windows[.]c:[0-9]' "$work/said" ||
         fails "$library: windows.c hang: no line of the call that goes on"
     try_no_cut "$library"
+    try_asked_window "$library"
     try_unrecorded_window "$library"
     try_random_windows "$library"
 }

@@ -4,7 +4,8 @@
  * at its end. `hang`: rank 0 receives what nobody sends, and writes when. `under`, `self`, `alone`, `probed`,
  * `matched`: from there on a message is under way at each sum: to a neighbour, to oneself, on MPI_COMM_SELF,
  * one that a probe saw or took. `orders`: two communicators that not all ranks number alike. `file`: a call
- * that isn't recorded. `threads`: MPI_THREAD_MULTIPLE, from the beginning. */
+ * that isn't recorded. `threads`: MPI_THREAD_MULTIPLE, from the beginning. `asked`: each is sent what it
+ * receives from anybody, rank 0 sends to one that receives late, and the waits come at the end. */
 #include <mpi.h>
 #include <stdio.h>
 #include <stdlib.h>
@@ -73,9 +74,26 @@ static void sum_up(void) {
     }
 }
 
+static void send_late(void) { MPI_Send(&me, 1, MPI_INT, (me + 1) % ranks, LATE, MPI_COMM_WORLD); }
+
+/* A strict recorder learns in rank 0's sends what that rank received. */
+static void send_early(void) {
+    int in, last = ranks - 1;
+    send_late();
+    if (me == 0 || me == last)
+        MPI_Send(&me, 1, MPI_INT, 1, HEAD, MPI_COMM_WORLD);
+    if (me != 1)
+        return;
+    MPI_Recv(&in, 1, MPI_INT, last, HEAD, MPI_COMM_WORLD, MPI_STATUS_IGNORE);
+    rest(300000);
+    MPI_Recv(&in, 1, MPI_INT, 0, HEAD, MPI_COMM_WORLD, MPI_STATUS_IGNORE);
+}
+
 static void do_otherwise(void) {
     int in;
     MPI_File file;
+    if (is("asked"))
+        send_early();
     if (is("hang") && me == 0) {
         fprintf(stderr, "hang at %ld\n", (long)time(NULL));
         MPI_Recv(&in, 1, MPI_INT, 1, NEVER, MPI_COMM_WORLD, MPI_STATUS_IGNORE);
@@ -111,7 +129,10 @@ int main(int argc, char **argv) {
         if (step % 10 == 9)
             is_under && step >= at ? sum_up_under_way() : sum_up();
     }
-    MPI_Send(&me, 1, MPI_INT, (me + 1) % ranks, LATE, MPI_COMM_WORLD);
+    if (!is("asked"))
+        send_late();
+    else if (me == 1)
+        MPI_Cancel(&late);
     MPI_Wait(&late, MPI_STATUS_IGNORE);
     if (is("head") && me == 0)
         fprintf(stderr, "end\n");
