@@ -21,14 +21,6 @@ DEFINED = re.compile(
 )
 
 
-def passed_on(text, crate, module):
-    """What a file of definitions hands on under its own name: that name, and what it is of."""
-    for other, at, names in re.findall(r"^pub use Rattle\.(\w+)\.specs\.((?:inner\.)?[A-Z]\w*)\.\{([^}]*)\}", text, re.M):
-        for one in names.split(","):
-            there, _, here = one.strip().partition(" as ")
-            yield (crate, module, here or there), (other, at, there)
-
-
 def words(text):
     return set(re.findall(rf"(?<![\w'?!.-]){NAME}", text))
 
@@ -71,7 +63,6 @@ def definitions(texts):
                     own[constructor] = (*own[name][:2], constructor)
                     found[own[constructor]] = {own[name]}
         known = {**imports(text), **own}
-        found.update((name, {of}) for name, of in passed_on(text, crate, module.replace("/", ".")))
         for name, block in blocks.items():
             found[own[name]] = {known[word] for word in words(block) if word in known} | {own[name]}
         for name, meant in imports("\n".join(re.findall(r"^pub use .*", text, re.M))).items():
