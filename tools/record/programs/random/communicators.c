@@ -222,7 +222,7 @@ void step_free(void) {
     if (!is_member(comm, me))
         return;
     drop_inactive(comm);
-    if (disconnects)
+    if (disconnects && !has_pauses) /* with a receive that is active throughout, MPICH may hang there */
         MPI_Comm_disconnect(&comms[comm].handle);
     else
         MPI_Comm_free(&comms[comm].handle);
