@@ -12,6 +12,7 @@ from unittest import mock
 from support import BOTH, SITES, TOP, Folders, Stored, journal
 from companions import run, windows
 from companions.journals import is_closed, windows_in
+from companions.outputs import runs_in
 from companions.runs import Judge, Run
 from companions.script import Stopped
 from companions.watching import Watched
@@ -190,9 +191,36 @@ class Reports(Cut):
     def test_a_rank_that_did_not_come_to_the_cut(self):
         ranks = (FREE[0], FREE[1].replace(" / cut", ""))
         (last,) = self.stories(ranks, ("", ""))
-        self.assertEqual((last.heading, last.status), ("Window 1, the last", 5))
+        self.assertEqual((last.run.folder.name, last.status), ("1", 5))
         said = dict(last.sections)["Where the ranks were that didn't come to MPI_Finalize"]
         self.assertEqual(said[0], "rank 0: came to the end of this window, and went on")
+
+    def test_two_runs(self):
+        """Each is told by its number, and so are its windows."""
+        top = self.put(FREE, HANG, LAST)
+        (top / "run-b").mkdir()
+        for number, ranks in ((1, FREE), (2, LAST)):
+            (top / f"run-b/{number}").mkdir()
+            for rank, calls in enumerate(ranks):
+                self.write(f"journal/run-b/{number}/journal{rank}", journal(rank, 2, calls, "o"))
+        (self.folder / "mpiwait-run").mkdir()
+        top.rename(self.folder / "mpiwait-run/journal")
+        done = self.command("run", "--again", env=os.environ | CHECKER)
+        headings = [before for before, line in zip(done.stdout.split("\n"), done.stdout.split("\n")[1:])
+                    if line.startswith("===")]  # fmt: skip
+        wanted = ["Run 1 of 2, window 2, the first that isn't free", "Run 1 of 2, window 3, the last", "Run 2 of 2"]
+        self.assertEqual(headings, wanted)
+
+    def test_runs_come_as_they_began(self):
+        """Windows that are removed don't change that."""
+        top = self.put(LAST)
+        for name, began, changed in (("b", 1, 9), ("a", 2, 5)):
+            (top / f"run-{name}/1").mkdir(parents=True)
+            self.write(f"journal/run-{name}/1/journal0", journal(0, 1, "finalize"))
+            (top / f"windows-{name}").mkdir()
+            os.utime(top / f"windows-{name}", (began, began))
+            os.utime(top / f"run-{name}", (changed, changed))
+        self.assertEqual([one.name for one in runs_in(top)], ["journal", "run-b", "run-a"])
 
     def test_why_there_was_no_cut(self):
         self.put(("full", "full"))

@@ -228,7 +228,9 @@ def write_outputs(stories, files):
 
 def report(stories, files):
     """Prints the reports and writes what else is asked for. Answers the status of all."""
-    titles = [one.heading or f"Run {place} of {len(stories)}" for place, one in enumerate(stories, 1)]
+    runs = list(dict.fromkeys(one.run.top for one in stories))
+    which = [f"Run {runs.index(one.run.top) + 1} of {len(runs)}" if len(runs) > 1 else "" for one in stories]
+    titles = [", ".join(filter(None, [run, one.heading])).capitalize() for run, one in zip(which, stories)]
     texts = [f"{title}\n{'=' * len(title)}\n{one.text}" for title, one in zip(titles, stories)]
     try:
         print("\n".join(texts) if len(stories) > 1 else stories[0].text, end="", flush=True)
@@ -242,5 +244,7 @@ def report(stories, files):
 
 def runs_in(folder):
     """The folders with journals: the folder of the first run and those of others in it, as they began."""
-    others = sorted(Path(folder).glob("run-*"), key=lambda one: one.stat().st_mtime_ns)
-    return [one for one in [Path(folder), *others] if any(one.glob("journal[0-9]*")) or windows_in(one)]
+    top = Path(folder)  # windows that go change the folder of a run, but not its mark
+    marks = {one: next(top.glob(f"windows-{one.name[4:]}"), one) for one in top.glob("run-*")}
+    runs = [top, *sorted(marks, key=lambda one: marks[one].stat().st_mtime_ns)]
+    return [one for one in runs if any(one.glob("journal[0-9]*")) or windows_in(one)]

@@ -157,10 +157,11 @@ class Windows:
         """Those of the windows that stay, and that of the last one."""
         last = self.last()
         stay = {self.first: "the first that isn't free", self.differs: "the first in which calls differ"}
-        for number in sorted(set(stay) - {None, last}):
+        earlier = sorted(set(stay) - {None, last})
+        for number in earlier:
             heading = f"Window {number}, {stay[number]}"
             yield Story(self.folder / str(number), judge, f"{name}, window {number}", heading=heading, **more)
-        heading = f"Window {last}, the last"
+        heading = f"Window {last}, the last" if earlier else ""
         yield Story(self.folder / str(last), judge, name, heading=heading, windows=self, **more)
 
 
