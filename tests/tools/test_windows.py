@@ -145,12 +145,59 @@ class Judged(Cut):
         self.assertEqual((found.count("judged"), found.first, self.there()), (3, 2, [2, 4]))
 
     def test_a_judge_that_fails_while_the_run_goes_on(self):
-        top = self.put(FREE, LAST)
-        judging = Judging(top, mock.Mock(ask=mock.Mock(side_effect=OSError(24, "Too many open files"))), False, None)
-        with contextlib.redirect_stderr(io.StringIO()) as said:
+        """No window is forgotten that wasn't judged, and those behind it are."""
+        judge, asked = Stored(), []
+        top = self.put(FREE, FREE, LAST)
+
+        def ask(folder, **words):
+            asked.append(folder.name)
+            if len(asked) == 1:
+                raise OSError(24, "Too many open files")
+            return Stored.ask(judge, folder, **words)
+
+        with mock.patch.object(judge, "ask", ask), contextlib.redirect_stderr(io.StringIO()) as said:
+            judging = Judging(top, judge, False, None)
             judging.thread.start()
-            judging.thread.join()
+            found = judging.end()[top]
+        self.assertIn("window 1 can't be judged: [Errno 24] Too many open files", said.getvalue())
+        self.assertEqual((found.count("judged"), found.unjudged(), asked), (1, 1, ["1", "2"]))
+
+    def test_a_folder_that_cannot_be_read_while_the_run_goes_on(self):
+        judging = Judging(self.put(FREE, LAST), Stored(), False, None)
+        with mock.patch.object(windows, "runs_in", side_effect=OSError(24, "Too many open files")):
+            with contextlib.redirect_stderr(io.StringIO()) as said:
+                judging.thread.start()
+                judging.thread.join()
         self.assertIn("no window is judged before the run ends: [Errno 24] Too many open files", said.getvalue())
+        self.assertEqual(judging.end()[self.folder / "journal"].count("judged"), 1)
+
+    def test_a_look_that_fails_does_not_fail_the_run(self):
+        judging = Judging(self.put(FREE, LAST), Stored(), False, None)
+        for _ in judging.all():
+            pass
+        with mock.patch.object(windows, "is_closed", side_effect=OSError(12, "Cannot allocate memory")):
+            judging.look()
+        judging.thread.start()
+        self.assertEqual(judging.end()[self.folder / "journal"].count("judged"), 1)
+
+    def test_a_full_disk(self):
+        """What is found is noted once there is room."""
+        top, replace, full = self.put(FREE, FREE, LAST), os.replace, OSError(28, "No space left on device")
+        judging = Judging(top, Stored(), False, None)
+        with mock.patch("os.replace", side_effect=full):
+            (found,) = judging.all()
+            while found.catch_up():
+                self.assertFalse((top / "windows").exists())
+        judging.thread.start()
+        judging.end()
+        self.assertEqual((found.count("judged"), self.there()), (2, [3]))
+        self.assertEqual(json.loads(self.read("journal/windows"))["judged"], 2)
+
+    def test_one_that_is_removed_is_gone_at_once(self):
+        """Else a script that is killed meanwhile would leave one that isn't closed."""
+        with mock.patch("shutil.rmtree"):
+            found = self.judged(FREE, LAST)
+        self.assertEqual((found.count("judged"), self.there(), found.last()), (1, [2], 2))
 
 
 class Reports(Cut):

@@ -15,7 +15,7 @@ from contextlib import suppress
 from .journals import is_closed, journals_in, windows_in
 from .outputs import runs_in
 from .runs import Run
-from .script import Status, plural, say, why_of
+from .script import Status, Stopped, plural, say, why_of
 from .story import Story
 
 MOST_WAITING, PAUSE = 8, 0.1  # closed windows; seconds
@@ -49,12 +49,6 @@ class Windows:
         self.closed |= {one for one in open_ones if is_closed(self.folder / str(one))}
         return [one for one in numbers if one in self.closed]
 
-    def take(self):
-        with self.lock:
-            number = next(iter(self.waiting()), None)
-            self.done.add(number)
-        return number
-
     def drop(self):
         """At most so many wait: those that come later are removed."""
         with self.lock:
@@ -69,33 +63,44 @@ class Windows:
             (self.gone if is_gone else self.found).update(found)
             if is_gone:
                 self.note()
-                shutil.rmtree(self.folder / str(number), ignore_errors=True)
+                with suppress(OSError):  # without some of its journals it would be taken for the last one
+                    shutil.rmtree((self.folder / str(number)).rename(self.folder / f"removed-{number}"))
 
     def note(self):
         new = self.folder / "windows.new"
-        new.write_text(json.dumps(dict(self.gone, eager=self.limit)) + "\n", encoding="ascii")
-        os.replace(new, self.folder / "windows")
+        with suppress(OSError):  # if the disk is full, it is noted once there is room
+            new.write_text(json.dumps(dict(self.gone, eager=self.limit)) + "\n", encoding="ascii")
+            os.replace(new, self.folder / "windows")
 
     def catch_up(self):
         """Judges those that wait. Answers whether there were any."""
-        number = self.take()
+        with self.lock:
+            number = next(iter(self.waiting()), None)
+            self.done.add(number)
         if number is None:
             return False
-        found = Counter(calls=sum(one.count() for one in journals_in(self.folder / str(number))))
-        found[(self.judge_strictly if self.first is None else self.judge_as_it_went)(number)] += 1
-        found["judged"] = 1 - found["failed"]
+        try:
+            journals = journals_in(self.folder / str(number))
+            found = Counter(calls=sum(one.count() for one in journals), judged=1)
+            found[(self.judge_strictly if self.first is None else self.judge_as_it_went)(number)] += 1
+        except Exception as fault:
+            say(f"window {number} can't be judged: {why_of(fault)}")
+            found = Counter(failed=1)
         self.remove(number, found)
         return True
 
-    def judge_strictly(self, number):
-        """Answers what it is: free, by_tests (a hang by these alone), different, first or failed."""
-        window = self.folder / str(number)
-        answer = self.judge.ask(window, eager=self.eager)
+    def ask(self, number, **words):
+        answer = self.judge.ask(self.folder / str(number), **words)
         if answer.status == Status.IMPOSSIBLE:
-            return self.cannot(number, answer.said)
+            raise Stopped(answer.said)
+        return answer
+
+    def judge_strictly(self, number):
+        """Answers what it is: free, by_tests (a hang by these alone), different or first."""
+        answer = self.ask(number, eager=self.eager)
         if answer.status == Status.FREE and not answer.report["findings"]:
             return "free"
-        story = Story(window, self.judge, eager=self.eager)
+        story = Story(self.folder / str(number), self.judge, eager=self.eager)
         if story.status in (Status.FREE, Status.NOT_JUDGED):
             return "by_tests" if story.by_tests else "free"
         is_free = story.status == Status.DIFFERENT and story.verdict == "free"
@@ -109,16 +114,10 @@ class Windows:
         return "first"
 
     def judge_as_it_went(self, number):
-        answer = self.judge.ask(self.folder / str(number), calls="went")
-        if answer.status == Status.IMPOSSIBLE:
-            return self.cannot(number, answer.said)
+        answer = self.ask(number, calls="went")
         if answer.status != Status.FREE:
             self.odd.append(f"window {number}: {answer.said or 'not free as it went'}")
         return "later"
-
-    def cannot(self, number, said):
-        say(f"window {number} can't be judged: {said}")
-        return "failed"
 
     # ---- What is said ----
 
@@ -186,8 +185,9 @@ class Judging:
             say(f"no window is judged before the run ends: {why_of(fault)}")
 
     def look(self):
-        for one in list(self.runs.values()):
-            one.drop()
+        with suppress(OSError):  # what fails here doesn't fail the run
+            for one in list(self.runs.values()):
+                one.drop()
 
     def end(self):
         """Judges what still waits. Answers the windows of each run, by its folder."""
@@ -196,6 +196,7 @@ class Judging:
         for one in self.all():
             while one.catch_up():
                 pass
+            one.note()
         return self.runs
 
 
@@ -203,10 +204,9 @@ def stories_of(folder, judge, windows, name="a run", **more):
     """What is said of a run: of its windows, if it has any."""
     if not windows_in(folder):
         return [Story(folder, judge, name, **more)]
-    if windows is None:
-        windows = Windows(folder, judge, keeps=True, eager=more.get("eager"))
-        while windows.catch_up():
-            pass
+    windows = windows or Windows(folder, judge, keeps=True, eager=more.get("eager"))
+    while windows.catch_up():
+        pass
     return list(windows.stories(judge, name, **more))
 
 
