@@ -4,9 +4,12 @@ import contextlib
 import io
 import json
 import os
+import shutil
 import subprocess
+import sys
 import unittest
 from pathlib import Path
+from socket import gethostname
 from unittest import mock
 
 from support import BOTH, SITES, TOP, Folders, Stored, journal
@@ -15,7 +18,7 @@ from companions.journals import is_closed, windows_in
 from companions.outputs import runs_in
 from companions.runs import Judge, Run
 from companions.script import Stopped
-from companions.watching import Watched
+from companions.watching import Alarm, Watched
 from companions.windows import Judging, Windows, stories_of
 
 CHECKER = {"MPIWAIT": str(TOP / "tests/tools/judge")}
@@ -309,6 +312,30 @@ class Reports(Cut):
         watched.look(5.0)
         self.assertEqual((watched.folder.name, watched.since), ("2", {0: 5.0, 1: 5.0}))
 
+    def test_a_window_that_goes_while_its_ranks_are_judged(self):
+        """The next one is watched."""
+        top = self.put(STUCK, state="i")
+        alarm = Alarm(top, Stored(), 1, True)
+
+        def ask(folder, **_):
+            (top / "2").mkdir()
+            for rank, calls in enumerate(STUCK):
+                self.write(f"journal/2/journal{rank}", journal(rank, 2, calls, "i", f"a library on {gethostname()}"))
+            shutil.rmtree(top / "1")
+            raise Stopped("the checker can't be run: No such file or directory")
+
+        for rank, calls in enumerate(STUCK):
+            self.write(f"journal/1/journal{rank}", journal(rank, 2, calls, "i", f"a library on {gethostname()}"))
+        now = [1000.0]
+        with mock.patch("time.monotonic", lambda: now[0]), contextlib.redirect_stderr(io.StringIO()) as said:
+            with mock.patch.object(alarm.judge, "ask", ask):
+                while (top / "1").exists():
+                    self.assertFalse(alarm.look())
+                    now[0] += 1
+            self.assertEqual((alarm.is_off, said.getvalue()), (False, ""))
+            alarm.look()
+        self.assertEqual(alarm.watched[top].folder.name, "2")
+
 
 class Commands(Cut):
     def keep(self, *all_windows):
@@ -391,6 +418,12 @@ class Commands(Cut):
             os.environ.pop("MPIWAIT", None)
             asked = (["x"], ["--window", "0", "x"], ["--window", "9", "x"], ["--unproved", "x"], ["--again"])
             self.assertEqual([run.words_of(words).window for words in asked], [200_000, 0, 9, 0, 0])
+
+    def test_an_interrupt_at_the_terminal(self):
+        """It ends the run, and no judge of a window."""
+        ask = [sys.executable, "-c", "import os; print(os.getpgid(0))"]
+        groups = [int(Judge(nice=nice).run(ask, self.folder).stdout) for nice in (0, 10)]
+        self.assertEqual([group == os.getpgid(0) for group in groups], [True, False])
 
     def test_a_checker_that_knows_none(self):
         def answer(command, folder):

@@ -183,16 +183,16 @@ class View:
 
 
 class Judge:
-    """The program that MPIWAIT names, or else the repository's."""
+    """The program that MPIWAIT names, or else the repository's. Ctrl-C at a terminal ends no nice one."""
     def __init__(self, unproved=False, nice=0):
         path = os.environ.get("MPIWAIT") or str(HERE.parent.parent / "mpiwait")
         self.path = os.path.abspath(path) if "/" in path else path
-        self.words = ["nice", "-n", str(nice)] if nice else []
+        self.words, self.is_nice = ["nice", "-n", str(nice)] if nice else [], nice > 0
         self.words += [self.path, "--unproved"] if unproved else [self.path]
 
     def run(self, command, folder):
         more = {"stdin": subprocess.DEVNULL, "capture_output": True, "text": True, "errors": "replace"}
-        return subprocess.run(command, cwd=folder, check=False, **more)
+        return subprocess.run(command, cwd=folder, check=False, start_new_session=self.is_nice, **more)
 
     def try_out(self, has_windows=False):
         """Judges a run of one rank that makes no call. It may have to be built for that."""

@@ -62,8 +62,9 @@ class Alarm:
                 self.watched.setdefault(folder, Watched(folder))
             return any([self._look_at(run, now) for run in self.watched.values()]) and self.stops
         except Exception as fault:
-            self.is_off = True
-            say(f"nothing is reported before the run ends: {why_of(fault)}")
+            self.is_off = all(one.folder.exists() for one in self.watched.values())
+            if self.is_off:  # else a window was judged and removed meanwhile
+                say(f"nothing is reported before the run ends: {why_of(fault)}")
             return False
 
     def _look_at(self, watched, now):
