@@ -245,6 +245,14 @@ class Reports(Cut):
         said = dict(last.sections)["Where the ranks were that didn't come to MPI_Finalize"]
         self.assertEqual(said[0], "rank 0: came to the end of this window, and went on")
 
+    def test_a_rank_that_was_killed_right_behind_a_cut(self):
+        for number, wanted in ((1, "rank 1: never came through MPI_Init"), (2, "rank 1: made no call in this window")):
+            with self.subTest(number):
+                self.again()
+                (last,) = self.stories(*[FREE] * (number - 1), ("recv 0 1 0 @7", ""))
+                said = dict(last.sections)["Where the ranks were that didn't come to MPI_Finalize"]
+                self.assertEqual((last.status, said[1]), (5, wanted))
+
     def test_two_runs(self):
         """Each is told by its number, and so are its windows."""
         top = self.put(FREE, HANG, LAST)

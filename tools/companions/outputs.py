@@ -229,8 +229,8 @@ def write_outputs(stories, files):
 def report(stories, files):
     """Prints the reports and writes what else is asked for. Answers the status of all."""
     runs = list(dict.fromkeys(one.run.top for one in stories))
-    which = [f"Run {runs.index(one.run.top) + 1} of {len(runs)}" if len(runs) > 1 else "" for one in stories]
-    titles = [", ".join(filter(None, [run, one.heading])).capitalize() for run, one in zip(which, stories)]
+    names = {top: f"Run {number} of {len(runs)}" for number, top in enumerate(runs, 1) if len(runs) > 1}
+    titles = [", ".join(filter(None, [names.get(one.run.top), one.heading])).capitalize() for one in stories]
     texts = [f"{title}\n{'=' * len(title)}\n{one.text}" for title, one in zip(titles, stories)]
     try:
         print("\n".join(texts) if len(stories) > 1 else stories[0].text, end="", flush=True)

@@ -186,7 +186,8 @@ class Story(Judgement):
     def _place_of(self, rank):
         journal, last = self.run.journals[rank], self.run.journals[rank].last
         if last is None:
-            return "never came through MPI_Init"
+            is_first = self.run.folder.name in ("1", self.run.top.name)
+            return "never came through MPI_Init" if is_first else "made no call in this window"
         if journal.polls:
             return self._polling(rank, *journal.polls)
         before = [call.placed() for call in journal.tail()[-2:-1]]
