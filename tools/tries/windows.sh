@@ -31,18 +31,20 @@ expect_removed() {
     [[ $left == "$2" ]] || fails "$1: $left windows are left"
 }
 
-# Where no window ends, the report says why.
+# Where no window ends, the report says why. Each sum would be the end of one.
 try_no_cut() {
     local library=$1 way why
     while read -r way why; do
-        run_with --window 500 "${command[@]}" 200 "$way" 0
+        run_with --window 1 "${command[@]}" 100 "$way" 0
         expect_windows "$library: windows.c $way" 0 0 "$why"
     done <<'END_OF_WAYS'
 under moments without a cut: messages were under way
+posted moments without a cut: messages were under way
 self moments without a cut: messages were under way
 alone moments without a cut: messages were under way
 probed moments without a cut: messages were under way
 matched moments without a cut: calls failed, aren't recorded
+cancelled moments without a cut: calls failed, aren't recorded
 file moments without a cut: calls failed, aren't recorded
 END_OF_WAYS
     run_with --window 500 "${command[@]}" 200 threads 0
@@ -81,6 +83,14 @@ try_random_windows() {
     done
     echo "$library: $seeds programs with a fault, in windows: $found hung and were found, $unknown hung and" \
         "are unfinished, $right ended"
+}
+
+# A rank that is recorded no further exchanges all the same.
+try_closed_journal() {
+    local name="$1: windows.c closes"
+    run_with --window 20000 --for 60 "${command[@]}" 1000 closes 0
+    expect_windows "$name" 5 0 'recorded no further: the program closed its journal'
+    ! grep -q 'was ended' "$work/errors" || fails "$name: it hung"
 }
 
 # A rank without a recorder meets nobody's exchange.
@@ -185,6 +195,8 @@ try_windows() {
     expect_windows "$library: windows.c, --again" 0 3 'verdict free'
     run_with --window 600 "${command[@]}" 400 orders
     expect_windows "$library: windows.c orders" 0 3 'verdict free'
+    run_with --window 600 --for 60 "${command[@]}" 400 uneven
+    expect_windows "$library: windows.c uneven" 0 3 'verdict free'
     run_with --window 600 "${command[@]}" 400 head 150
     expect_windows "$library: windows.c head" 1 2 '^tools/run: window [0-9]* of journal: verdict hang'
     expect_removed "$library: windows.c head" 2
@@ -194,6 +206,7 @@ try_windows() {
         fails "$library: windows.c hang: no line of the call that goes on"
     try_no_cut "$library"
     try_asked_window "$library"
+    try_closed_journal "$library"
     try_unrecorded_window "$library"
     try_random_windows "$library"
 }
