@@ -21,6 +21,21 @@ fails() { echo "fails: $*"; }
 judge_loop loop "$2" 3 100 "$3"
 """
 
+DISK = """
+set -euo pipefail
+. "$1/tries/windows.sh"
+work=$2
+: >"$work/watched"
+watch_disk &
+sleep 0.5
+mkdir -- "$work/run"
+head -c 3000000 /dev/zero >"$work/run/journal0"
+sleep 0.5
+rm -- "$work/watched"
+wait $!
+cat -- "$work/disk"
+"""
+
 
 def said_by_bash(script, *words):
     done = subprocess.run(["bash", "-c", script, "bash", TOOLS, *map(str, words)], capture_output=True, text=True)
@@ -38,6 +53,12 @@ class Building(Folders):
     def test_what_cannot_be_compiled(self):
         self.assertEqual(self.build("ring.f90"), (1, "fails: mpich: ring.f90 can't be built\n"))
         self.assertFalse((self.folder / "program").exists())
+
+
+class Disk(Folders):
+    def test_a_folder_that_comes_later(self):
+        """What isn't there can't be measured, and the next look is another."""
+        self.assertEqual(said_by_bash(DISK, self.folder), (0, "3\n"))
 
 
 class Overhead(unittest.TestCase):

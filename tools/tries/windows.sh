@@ -106,7 +106,7 @@ try_unrecorded_window() {
 watch_disk() {
     local most=0 now
     while [[ -e $work/watched ]]; do
-        now=$(du -sm -- "$work/run" 2>/dev/null | cut -f 1)
+        now=$(du -sm -- "$work/run" 2>/dev/null | cut -f 1 || :) # windows go meanwhile
         ((${now:-0} <= most)) || most=$now
         echo "$most" >"$work/disk"
         sleep 0.2
