@@ -111,7 +111,7 @@ def main(argv):
         if not words.unproved:
             Judge().try_out(words.window)
         make_folder(folder)
-        alarm = Alarm(folder / "journal", Judge(nice=10), words.quiet, words.stop)
+        alarm = Alarm(folder / "journal", Judge(nice=1), words.quiet, words.stop)
         judging = Judging(folder / "journal", Judge(nice=10), words.keep, words.eager)
         judging.thread.start() if words.window else None
         looks = [] if words.unproved else [judging.look, alarm.look]
