@@ -21,19 +21,21 @@ fails() { echo "fails: $*"; }
 judge_loop loop "$2" 3 100 "$3"
 """
 
-DISK = """
+WATCHED = """
 set -euo pipefail
 . "$1/tries/windows.sh"
 work=$2
 : >"$work/watched"
-watch_disk &
+: >"$work/errors"
+watch_run &
 sleep 0.5
 mkdir -- "$work/run"
 head -c 3000000 /dev/zero >"$work/run/journal0"
-sleep 0.5
+echo "ranks 0 and 1 wait for ever" >>"$work/errors"
+sleep 1.5
 rm -- "$work/watched"
 wait $!
-cat -- "$work/disk"
+echo "$(<"$work/disk") $(($(<"$work/reported") < $(date +%s)))"
 """
 
 
@@ -55,10 +57,10 @@ class Building(Folders):
         self.assertFalse((self.folder / "program").exists())
 
 
-class Disk(Folders):
+class Watched(Folders):
     def test_a_folder_that_comes_later(self):
-        """What isn't there can't be measured, and the next look is another."""
-        self.assertEqual(said_by_bash(DISK, self.folder), (0, "3\n"))
+        """What isn't there can't be measured, and the next look is another. A report has the time when it came."""
+        self.assertEqual(said_by_bash(WATCHED, self.folder), (0, "3 1\n"))
 
 
 class Overhead(unittest.TestCase):

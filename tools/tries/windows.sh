@@ -102,13 +102,15 @@ try_unrecorded_window() {
     ! grep -q 'was ended' "$work/errors" || fails "$library: windows.c, a rank that isn't recorded: it hung"
 }
 
-# The most megabytes of the recording while it is made go into `disk'.
-watch_disk() {
+# The most megabytes of the recording while it is made go into `disk', and the time at which a hang is
+# reported into `reported'.
+watch_run() {
     local most=0 now
     while [[ -e $work/watched ]]; do
         now=$(du -sm -- "$work/run" 2>/dev/null | cut -f 1 || :) # windows go meanwhile
         ((${now:-0} <= most)) || most=$now
         echo "$most" >"$work/disk"
+        [[ -e $work/reported ]] || ! grep -q 'wait for ever' -- "$work/errors" || date +%s >"$work/reported"
         sleep 0.2
     done
 }
@@ -116,7 +118,9 @@ watch_disk() {
 # Runs and judges, with what that uses in `used' and `disk'.
 watch_windows() {
     : >"$work/watched"
-    watch_disk &
+    : >"$work/errors"
+    rm -f -- "$work/reported"
+    watch_run &
     measure_use "$here/run" --folder "$work/run" --window 200000 --json "$work/json" --stop \
         "${command[@]}" "$@" 2>"$work/errors"
     rm -- "$work/watched"
@@ -146,8 +150,9 @@ try_long_runs() {
         ((megabytes <= 1000 && disk <= 200)) || fails "$name: more than 1 GB or 200 MB of disk"
         [[ $found =~ ^$way\ [0-9]+\ [0-9]+\ 0\  ]] || fails "$name: another verdict, or not all are judged"
     done
-    seconds=$(($(date +%s) - $(sed -n 's/^hang at //p' "$work/errors")))
-    echo "$name: reported and ended $seconds seconds later"
+    [[ -e $work/reported ]] || { fails "$name: not reported while it runs"; return; }
+    seconds=$(($(<"$work/reported") - $(sed -n 's/^hang at //p' "$work/errors")))
+    echo "$name: reported $seconds seconds later"
     ((seconds <= 15)) || fails "$name: more than 15 seconds later"
 }
 
