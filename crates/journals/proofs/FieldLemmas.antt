@@ -7,6 +7,7 @@ use Rattle.std.proofs.lemmas.Slice.Eq.{bytes_eq-Decides}
 use Rattle.mpicall.specs.Number.{has_leading_zero, is_canonical, number_up_to, signed_of, value_of}
 use Rattle.journals.specs.declared.limits.TheConstants.{GREATEST}
 use Rattle.journals.specs.Fields.{or_named, peer_field, signed_field, field_of}
+use Rattle.journals.specs.Lines.{begins_with_at}
 use Rattle.journals.specs.inner.Fields.{number_field}
 use Rattle.journals.specs.declared.field.Field.{Field}
 use Rattle.journals.specs.declared.field.Field.TheVariants.{Natural, Signed, Null, Any, Undefined}
@@ -94,3 +95,12 @@ number_read ranks form text n read = by form
     by Colour = no_name (codes "undefined") text Undefined (signed_field text) refl all ∙ signed
     by Key = signed
     by Bytes = rw read refl
+
+-- it isn't a site
+pub no_at : (text : List ℕ) (n : ℕ) → number_up_to GREATEST text ≡ Some n → begins_with_at (Some text) ≡ false
+no_at [] n read = refl
+no_at (byte ∷ bytes) n read =
+    elim (cases_Bool (byte == 64)) [
+      | inl is ↦ let at : byte ≡ 64 = eqb-true byte 64 is in absurd (false≢true (rw at at (digits (byte ∷ bytes) (spelled GREATEST (byte ∷ bytes) n read).0)))
+      | inr apart ↦ apart
+    ]

@@ -192,13 +192,13 @@ pub(crate) fn takes_count(word: Word, count: usize) -> bool
     }
 }
 
-/// The form of the field at a place of the fields that a word takes.
+/// The form of the field at a place of the fields that a word takes; it always has fields of these forms.
 #[inline(always)]
-pub fn form_at(word: Word, place: usize) -> Option<Form>
+pub(crate) fn form_among(forms: &[Form], word: Word, place: usize) -> Option<Form>
+    requires { forms.now ≡ (row_of word).forms }
     ensures { (count : ℕ) → length (forms_of word count) ≡ count → place < count
         → result ≡ slice_get (forms_of word count) place }
 {
-    let forms = forms_of(word);
     if place < forms.len() {
         return Some(forms[place]);
     }
@@ -207,4 +207,13 @@ pub fn form_at(word: Word, place: usize) -> Option<Form>
         More::Several(form) => Some(form),
         More::Nothing | More::Text => None,
     }
+}
+
+/// The form of the field at a place of the fields that a word takes.
+#[inline(always)]
+pub fn form_at(word: Word, place: usize) -> Option<Form>
+    ensures { (count : ℕ) → length (forms_of word count) ≡ count → place < count
+        → result ≡ slice_get (forms_of word count) place }
+{
+    form_among(forms_of(word), word, place)
 }

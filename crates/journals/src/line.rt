@@ -9,13 +9,14 @@ ghost use Rattle.std.specs.Option.{option_copied};
 ghost use Rattle.journals.specs.Words.{forms_of, is_call};
 ghost use Rattle.journals.specs.Lines.{begins_with_at, last_field, is_site, fields_of, line_of};
 ghost use Rattle.journals.specs.inner.Taking.{fields_after_word, is_stopped, line_after_word, PutsAll, PutsFields, ReadsLine};
+ghost use Rattle.journals.specs.inner.Texts.{IsNumber};
 ghost use Rattle.journals.specs.declared.line.LineFault.TheVariants.{Memory};
 
 use crate::fault::JournalFaultKind;
 use crate::field::{Field, read_field, read_piece, read_positive};
-use crate::form::{form_at, takes_count};
+use crate::form::{form_among, form_at, forms_of, takes_count};
 use crate::limits::MOST_LINE_BYTES;
-use crate::texts::Texts;
+use crate::texts::{Piece, Texts};
 use crate::word::{CallWord, Word, word_of};
 use mpicall::fields::Fields;
 use std::alloc::{AllocError, AllocFailed};
@@ -192,6 +193,19 @@ fn begins_with_at(text: &[u8]) -> bool
     }
 }
 
+/// Whether a text begins as a site does. A number doesn't.
+#[inline(always)]
+#[tactic(auto, using(crate::proofs::FieldLemmas::no_at))]
+fn begins_site(piece: Piece<'_>) -> bool
+    requires { IsNumber piece.text.now piece.number }
+    ensures { result ≡ begins_with_at (Some piece.entry.text.now) }
+{
+    match piece.number {
+        Some(_) => false,
+        None => begins_with_at(piece.text),
+    }
+}
+
 /// Whether a text that begins as a site does is that of a call line with so many fields before it, and none after it.
 fn ends_line(word: Word, place: usize, text: &[u8], mut rest: Texts<'_>) -> bool
     ensures over { result ≡ true → rest.entry ≡ [] }
@@ -218,12 +232,13 @@ fn push_all(
     requires short { length fields ≤ MOST_LINE_BYTES }
     ensures { PutsAll ranks word fields.entry into.old.items into.new.items result }
 {
+    let forms = forms_of(word);
     let mut place = 0;
     while let Some(piece) = fields.next_piece() {
-        if begins_with_at(piece.text) {
+        if begins_site(piece) {
             return Ok(ends_line(word, place, piece.text, fields));
         }
-        let Some(form) = form_at(word, place) else {
+        let Some(form) = form_among(forms, word, place) else {
             return Ok(false);
         };
         let Some(it) = read_piece(ranks, form, piece) else {

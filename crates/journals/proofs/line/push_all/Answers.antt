@@ -13,13 +13,13 @@ loop-piece-init c = record {
   none = none_first c.args.fields;
 }
 
-pub returns-then-begins_with_at : goal.returns-then-begins_with_at
-returns-then-begins_with_at c =
+pub returns-then-begins_site : goal.returns-then-begins_site
+returns-then-begins_site c =
     let came = some_piece c.next_piece.result c.in-Some.piece c.loop-piece.fields c.next_piece.new.self c.in-Some.is c.next_piece.ensures in
     let first = came.0 in
     ended c.args.ranks c.args.word c.args.fields c.args.into.now.items c.loop-piece.into.items c.ends_line.result
     (λ is. sited c.args.ranks c.args.word c.args.fields c.loop-piece.place c.in-Some.piece.text.now c.loop-piece.fields c.next_piece.new.self c.args.into.now.items c.loop-piece.into.items
-    first (c.ends_line.ensures.over is) c.loop-piece.invariant.left (sym c.begins_with_at.ensures ∙ c.if-begins_with_at.true)
+    first (c.ends_line.ensures.over is) c.loop-piece.invariant.left (sym c.begins_site.ensures ∙ c.if-begins_site.true)
     (c.ends_line.ensures.call is) (c.ends_line.ensures.takes is) (c.ends_line.ensures.site is) c.loop-piece.invariant.each c.loop-piece.invariant.none)
     c.loop-piece.invariant.grows
 
@@ -30,10 +30,10 @@ loop-piece-preserved c =
     record {
       left = omega (arith, c.loop-piece.invariant.left, ap length first);
       grows = grows_more c.args.into.now.items c.loop-piece.into.items c.push.new.self.items c.in-Some-read_piece.it c.loop-piece.invariant.grows c.in_ok-push.ensures.items;
-      each = each_next c.args.ranks c.args.word c.args.fields c.loop-piece.place c.form_at.result c.in-Some-form_at.form c.in-Some.piece.text.now c.loop-piece.fields c.next_piece.new.self
+      each = each_next c.args.ranks c.args.word c.args.fields c.loop-piece.place c.form_among.result c.in-Some-form_among.form c.in-Some.piece.text.now c.loop-piece.fields c.next_piece.new.self
           c.read_piece.result c.in-Some-read_piece.it c.args.into.now.items c.loop-piece.into.items c.push.new.self.items
-          c.form_at.ensures c.in-Some-form_at.is first c.read_piece.ensures c.in-Some-read_piece.is c.in_ok-push.ensures.items c.loop-piece.invariant.each;
-      none = none_next c.args.fields c.in-Some.piece.text.now c.loop-piece.fields c.next_piece.new.self first (sym c.begins_with_at.ensures ∙ c.if-begins_with_at.false) c.loop-piece.invariant.none;
+          c.form_among.ensures c.in-Some-form_among.is first c.read_piece.ensures c.in-Some-read_piece.is c.in_ok-push.ensures.items c.loop-piece.invariant.each;
+      none = none_next c.args.fields c.in-Some.piece.text.now c.loop-piece.fields c.next_piece.new.self first (sym c.begins_site.ensures ∙ c.if-begins_site.false) c.loop-piece.invariant.none;
     }
 
 pub returns : goal.returns
@@ -46,4 +46,8 @@ returns c =
 
 pub read_piece-requires-clause-number : goal.read_piece-requires-clause-number
 read_piece-requires-clause-number c =
+    (some_piece c.next_piece.result c.in-Some.piece c.loop-piece.fields c.next_piece.new.self c.in-Some.is c.next_piece.ensures).1
+
+pub begins_site-requires : goal.begins_site-requires
+begins_site-requires c =
     (some_piece c.next_piece.result c.in-Some.piece c.loop-piece.fields c.next_piece.new.self c.in-Some.is c.next_piece.ensures).1
