@@ -1,6 +1,8 @@
 -- The active requests of a rank, as one is put into the table or the map, or taken out of them.
-use Rattle.std.proofs.Common.{◌≡◌, ◌∙◌, ◌<◌, ◌%◌, ◌==◌, ℕ, zero, suc, Bool, true, false, refl, sym, ap, List, length, replicate, set, Option, Some, None, inl, inr, if◌then◌else◌}
-use Rattle.std.specs.Prelude.{slice_get}
+use Rattle.std.proofs.Common.{◌≡◌, ◌∙◌, ◌<◌, ◌%◌, ◌==◌, ℕ, zero, suc, Bool, true, false, refl, sym, ap, arith, List, [], ◌∷◌, length, replicate, set, Option, Some, None, inl, inr, if◌then◌else◌}
+use Rattle.std.specs.Prelude.{slice_get, nat_eq}
+use Rattle.std.specs.HashMap.{HashMap, get, hash_map_len}
+use Rattle.std.specs.Map.{lookup}
 use Rattle.std.proofs.lemmas.Bool.{cases_eq, cond-true, cond-false, eq-eqb, eqb-true, ne_eqb}
 use Rattle.mpicall.specs.Word.{or_else}
 use Rattle.closing.specs.inner.Started.{may_hold, own_in}
@@ -127,3 +129,20 @@ none_held (suc n) id (suc place) = none_held n id place
 pub both_gone : (b : Bool) (near far : Option Active) → or_else (if b then None else near) (if b then None else far) ≡ (if b then None else or_else near far)
 both_gone true near far = refl
 both_gone false near far = refl
+
+-- ---- The map ----
+
+looked_up : (entries : List (ℕ × Active)) → length entries ≡ 0 → (number : ℕ) → None ≡ lookup (nat_eq number) entries
+looked_up [] empty number = refl
+looked_up (entry ∷ entries) empty number = absurd (omega (arith, empty))
+
+-- one without entries has none
+pub none_of_none : {S : Type 0} (far : HashMap ℕ Active S) → hash_map_len far ≡ 0 → (number : ℕ) → None ≡ get nat_eq far number
+none_of_none far empty number = looked_up far.entries empty number
+
+pub gone_of_none : {S : Type 0} (far : HashMap ℕ Active S) → hash_map_len far ≡ 0 → (id other : ℕ) → get nat_eq far other ≡ (if id == other then None else get nat_eq far other)
+gone_of_none far empty id other = by_same (id == other)
+  where
+    by_same : (b : Bool) → get nat_eq far other ≡ (if b then None else get nat_eq far other)
+    by_same true = sym (none_of_none far empty other)
+    by_same false = refl

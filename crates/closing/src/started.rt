@@ -3,7 +3,8 @@
 //! A rank's numbers of requests and messages rise, and most requests are active for a short time. So each has a place in
 //! a short table, by its number; a request whose place is taken is in a map.
 
-ghost use Rattle.std.specs.Prelude.{◌≡◌, ◌<◌, ◌==◌, ◌%◌, ℕ, None, Some, OnOk, if◌then◌else◌, slice_get};
+ghost use Rattle.std.specs.Prelude.{◌≡◌, ◌<◌, ◌==◌, ◌%◌, ℕ, None, Some, OnOk, if◌then◌else◌, slice_get, nat_eq};
+ghost use Rattle.std.specs.HashMap.{get};
 ghost use Rattle.closing.specs.inner.Started.{active_at, near_at, may_hold};
 
 use crate::list::Active;
@@ -107,6 +108,20 @@ impl Started {
         Some(active)
     }
 
+    /// Takes the request of this number out of the map, which most runs leave empty.
+    #[inline(always)]
+    #[tactic(auto, using(crate::proofs::StartedLemmas::none_of_none, crate::proofs::StartedLemmas::gone_of_none))]
+    fn remove_far(&mut self, id: u32) -> Option<Active>
+        ensures value { result ≡ get nat_eq self.old.far id }
+        ensures far { (other : ℕ) → get nat_eq self.new.far other ≡ (if id == other then None else get nat_eq self.old.far other) }
+        ensures near { self.new.near ≡ self.old.near }
+    {
+        if self.far.is_empty() {
+            return None;
+        }
+        self.far.remove(&id)
+    }
+
     /// The number has no active request any more; answers the one that it had.
     #[inline(always)]
     #[tactic(auto, using(crate::proofs::StartedLemmas::both_gone))]
@@ -114,7 +129,7 @@ impl Started {
         ensures value { result ≡ active_at self.old id }
         ensures gone { (other : ℕ) → active_at self.new other ≡ (if id == other then None else active_at self.old other) }
     {
-        let far = self.far.remove(&id);
+        let far = self.remove_far(id);
         match self.remove_near(id) {
             Some(active) => Some(active),
             None => far,
