@@ -228,13 +228,13 @@ impl List {
     }
 
     /// Adds a line that has room in every list: its end, or a line of the preface.
-    pub(crate) fn put(&mut self, call: Call) -> Result<(), AllocError>
-        ensures records { OnOk result (IsTrue (in_ranges call) → self.new.records ≡ self.old.records ++ call ∷ []) }
+    pub(crate) fn put(&mut self, call: &Call) -> Result<(), AllocError>
+        ensures records { OnOk result (IsTrue (in_ranges call.now) → self.new.records ≡ self.old.records ++ call.now ∷ []) }
         ensures freed { self.new.freed ≡ self.old.freed }
-        ensures puts { OnOk result (IsTrue (in_ranges call) → self.old.count < MOST_RECORDS → Puts self.old self.new (call ∷ [])) }
-        ensures stands { OnOk result ((handed : Handed) (progress : Progress) (line : ℕ) → Stands handed progress self.old → IsTrue (in_ranges call) → self.old.count + 1 < MOST_RECORDS → Stands handed (after_step progress line (Does call)) self.new) }
+        ensures puts { OnOk result (IsTrue (in_ranges call.now) → self.old.count < MOST_RECORDS → Puts self.old self.new (call.now ∷ [])) }
+        ensures stands { OnOk result ((handed : Handed) (progress : Progress) (line : ℕ) → Stands handed progress self.old → IsTrue (in_ranges call.now) → self.old.count + 1 < MOST_RECORDS → Stands handed (after_step progress line (Does call.now)) self.new) }
     {
-        let is_put = self.records.put(&call)?;
+        let is_put = self.records.put(call)?;
         if !is_put {
             return Ok(());
         }
@@ -244,8 +244,8 @@ impl List {
 
     /// Adds a line, where the list isn't too long.
     #[tactic(auto, using(crate::proofs::ListLemmas::no_room, crate::proofs::ListLemmas::adds_put))]
-    fn add(&mut self, call: Call) -> Result<(), Stop>
-        ensures { IsTrue (in_ranges call) → self.old.count < MOST_RECORDS → Adds result self.old self.new (call ∷ []) }
+    fn add(&mut self, call: &Call) -> Result<(), Stop>
+        ensures { IsTrue (in_ranges call.now) → self.old.count < MOST_RECORDS → Adds result self.old self.new (call.now ∷ []) }
     {
         if self.count >= MOST_RECORDS - 1 {
             return Err(Stop::Left(Why::TooLong));
@@ -255,8 +255,8 @@ impl List {
     }
 
     /// Puts a line that starts no request.
-    pub(crate) fn does(&mut self, call: Call) -> Result<(), Stop>
-        ensures { (handed : Handed) (progress : Progress) (line : ℕ) → Stands handed progress self.old → IsTrue (in_ranges call) → ComesTo result handed (after_step progress line (Does call)) line self.new }
+    pub(crate) fn does(&mut self, call: &Call) -> Result<(), Stop>
+        ensures { (handed : Handed) (progress : Progress) (line : ℕ) → Stands handed progress self.old → IsTrue (in_ranges call.now) → ComesTo result handed (after_step progress line (Does call.now)) line self.new }
     {
         self.add(call)
     }
@@ -292,7 +292,7 @@ impl List {
         ensures { (handed : Handed) (progress : Progress) (line : ℕ) (id : Id) → Stands handed progress self.old → IsTrue (in_ranges (start_call start 0)) → IsUnnamed id → ComesTo result handed (after_step progress line (Starts id (start_call start))) line self.new }
     {
         let number = self.take_number();
-        self.add(start.call(number))
+        self.add(&start.call(number))
     }
 
     /// The same; answers the number of the request.
@@ -301,7 +301,7 @@ impl List {
         ensures number { IfOk result (λ number. (handed : Handed) (progress : Progress) → Stands handed progress self.old → number ≡ least_free progress.active) }
     {
         let number = self.take_number();
-        self.add(start.call(number))?;
+        self.add(&start.call(number))?;
         Ok(number)
     }
 
@@ -315,7 +315,7 @@ impl List {
             place: self.count,
             is_send: start.is_send(),
         };
-        self.add(start.call(number))?;
+        self.add(&start.call(number))?;
         self.active.insert(id, active)?;
         self.freed.take_start(id, active.place)?;
         Ok(())
@@ -376,7 +376,7 @@ impl List {
         ensures { AreSmall self.old.numbers.items → self.old.count < MOST_RECORDS → Adds result self.old self.new (wait_for (take MOST_REQUESTS (drop start self.old.numbers.items))) }
     {
         match wait_of(group_from(self.numbers.as_slice(), start, MOST_REQUESTS)) {
-            Some(call) => self.add(call),
+            Some(call) => self.add(&call),
             None => Ok(()),
         }
     }
@@ -441,7 +441,7 @@ impl List {
     {
         let numbers = self.numbers.as_slice();
         let call = wait_for_one(numbers, number);
-        self.add(call)
+        self.add(&call)
     }
 
     /// Puts a wait for any of some requests, which completed this one that is active.

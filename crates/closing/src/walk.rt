@@ -267,7 +267,7 @@ impl Walk {
             Stands handed (record { records = []; active = []; late = [] }) self.old.list → Stands handed (progress_first said self.old.rank) self.new.list) }
     {
         for line in 0..run.preface.count() {
-            self.list.put(run.preface.split(line, self.rank))?;
+            self.list.put(&run.preface.split(line, self.rank))?;
         }
         Ok(())
     }
@@ -314,7 +314,7 @@ impl Walk {
         ensures freed { self.new.list.freed ≡ self.old.list.freed }
     {
         self.is_over = true;
-        self.list.put(end)
+        self.list.put(&end)
     }
 
     // ---- What there is of the list ----

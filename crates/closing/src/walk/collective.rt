@@ -42,7 +42,7 @@ impl Walk {
         if at.is_past {
             return self.list.starts_unnamed(Start::Collective { comm, kind });
         }
-        self.list.does(Call::Coll { comm, kind })
+        self.list.does(&Call::Coll { comm, kind })
     }
 
     pub(super) fn collects(

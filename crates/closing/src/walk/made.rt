@@ -175,6 +175,6 @@ impl Walk {
     {
         let comm = at.number_if(true)?;
         let call = self.maker(run, at, it, comm);
-        self.list.does(call)
+        self.list.does(&call)
     }
 }

@@ -124,7 +124,7 @@ impl Walk {
         if at.is_past {
             return self.list.starts_unnamed(start_of_send(mode, comm, sent));
         }
-        self.list.does(send_line(mode, comm, sent))
+        self.list.does(&send_line(mode, comm, sent))
     }
 
     pub(super) fn starts_send(
@@ -172,7 +172,7 @@ impl Walk {
         if at.is_past {
             return self.list.starts_unnamed(start_of_receive(comm, &message));
         }
-        self.list.does(receive_line(comm, &message))
+        self.list.does(&receive_line(comm, &message))
     }
 
     pub(super) fn starts_receive(
@@ -238,7 +238,7 @@ impl Walk {
         if at.is_past {
             return self.starts_halves(comm, sent, &message);
         }
-        self.list.does(exchange_line(comm, sent, &message))
+        self.list.does(&exchange_line(comm, sent, &message))
     }
 
     pub(super) fn starts_exchange(
@@ -267,7 +267,7 @@ impl Walk {
         if at.is_past {
             return Ok(());
         }
-        self.list.does(probe_line(comm, message))
+        self.list.does(&probe_line(comm, message))
     }
 
     pub(super) fn probes(&mut self, at: &At<'_>, awaited: &Awaited) -> Result<(), Stop>
