@@ -587,6 +587,7 @@ impl Walk {
     }
 
     /// Puts the lines of an entry, or answers why the list ends at it.
+    #[inline(never)]
     fn take(
         &mut self,
         run: &Communicators,

@@ -229,6 +229,7 @@ impl Known {
         Ok(())
     }
 
+    #[inline(never)]
     fn admit_report(&mut self, lines: &Lines, line: u32, word: ReportWord) -> Result<(), LineFault>
         requires next { IsNext (ranks_in self.old.marks) lines.now line
             (record { word = Report word; fields = fields_at lines.now line }) }

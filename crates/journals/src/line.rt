@@ -151,6 +151,7 @@ fn push_fields(
 
 /// Reads the fields after a word part by part, so that the first fault is found, and puts them at the end of a list;
 /// answers the word.
+#[inline(never)]
 fn push_by_parts(
     ranks: u32,
     word: Word,
@@ -282,6 +283,7 @@ fn is_stopped(word: Word) -> bool
 
 /// Reads a line, without its line feed, of a run of so many ranks: its word, and its fields, which are put at
 /// the end of a list.
+#[inline(never)]
 pub(crate) fn read_line(ranks: u32, line: &[u8], into: &mut Vec<Field>) -> Result<Word, LineFault>
     requires some { 1 ≤ ranks }
     requires short { length line.now < MOST_LINE_BYTES }

@@ -64,6 +64,7 @@ fn received_in(fields: &[Field], number: u32) -> Option<(Field, Field)>
 }
 
 /// The same of the start of an exchange.
+#[inline(never)]
 fn exchanged_in(fields: &[Field], number: u32) -> Option<(Field, Field)>
     ensures { result ≡ receive_in number (Call CallWord.Isendrecv) fields.now }
 {
@@ -100,6 +101,7 @@ fn is_wildcard(message: Option<(Field, Field)>) -> bool
     }
 }
 
+#[inline(never)]
 fn duplicated_in(fields: &[Field], number: u32) -> Option<u32>
     ensures { result ≡ duplicated_in number (Call CallWord.CommIdup) fields.now }
 {

@@ -191,6 +191,7 @@ fn looked_at(word: CallWord, count: usize) -> usize
 
 /// Notes what a call line says of its requests and messages.
 #[tactic(auto, using(crate::proofs::NoteSteps::none_numbered_left))]
+#[inline(never)]
 pub(crate) fn note_call(notes: &mut Notes, call: CallLine<'_>) -> Result<(), LineFault>
     requires { length (forms_of (Call call.word) (length call.fields.now)) ≡ length call.fields.now }
     ensures ok { OnOk result (may_use (may_call call.entry.line)

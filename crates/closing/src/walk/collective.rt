@@ -45,6 +45,7 @@ impl Walk {
         self.list.does(&Call::Coll { comm, kind })
     }
 
+    #[inline(never)]
     pub(super) fn collects(
         &mut self,
         at: &At<'_>,
@@ -58,6 +59,7 @@ impl Walk {
         self.collects_as(at, comm, kind_of(collective, root))
     }
 
+    #[inline(never)]
     pub(super) fn starts_collective(
         &mut self,
         at: &At<'_>,
@@ -79,6 +81,7 @@ impl Walk {
         )
     }
 
+    #[inline(never)]
     pub(super) fn starts_duplicate(&mut self, at: &At<'_>, own: u32) -> Result<(), Stop>
         ensures same { self.new ≡ record self.old { list = self.new.list } }
         ensures takes { (spot : Spot) → IsAt spot at.now → Tells spot.lines self.old.requests.outcomes →
@@ -94,6 +97,7 @@ impl Walk {
         )
     }
 
+    #[inline(never)]
     pub(super) fn makes_of_group(&mut self, at: &At<'_>) -> Result<(), Stop>
         ensures same { self.new ≡ record self.old { list = self.new.list } }
         ensures takes { (spot : Spot) → IsAt spot at.now → Takes spot (makes_of_group_on spot) result self.old.list self.new.list }

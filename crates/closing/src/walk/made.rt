@@ -163,6 +163,7 @@ impl Walk {
         }
     }
 
+    #[inline(never)]
     pub(super) fn makes(
         &mut self,
         run: &Communicators,

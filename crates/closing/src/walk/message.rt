@@ -116,6 +116,7 @@ fn known(message: Option<Message>) -> Result<Message, Stop>
 }
 
 impl Walk {
+    #[inline(never)]
     pub(super) fn sends(&mut self, at: &At<'_>, mode: Mode, sent: &Sent) -> Result<(), Stop>
         ensures same { self.new ≡ record self.old { list = self.new.list } }
         ensures takes { (spot : Spot) → IsAt spot at.now → Takes spot (sends_on spot mode (sent_view sent.now)) result self.old.list self.new.list }
@@ -127,6 +128,7 @@ impl Walk {
         self.list.does(&send_line(mode, comm, sent))
     }
 
+    #[inline(never)]
     pub(super) fn starts_send(
         &mut self,
         at: &At<'_>,
@@ -164,6 +166,7 @@ impl Walk {
         Ok((comm, known(message)?))
     }
 
+    #[inline(never)]
     pub(super) fn receives(&mut self, at: &At<'_>, awaited: &Awaited) -> Result<(), Stop>
         ensures same { self.new ≡ record self.old { list = self.new.list } }
         ensures takes { (spot : Spot) → IsAt spot at.now → Takes spot (receives_on spot (awaited_view awaited.now)) result self.old.list self.new.list }
@@ -175,6 +178,7 @@ impl Walk {
         self.list.does(&receive_line(comm, &message))
     }
 
+    #[inline(never)]
     pub(super) fn starts_receive(
         &mut self,
         lines: &Lines,
@@ -222,6 +226,7 @@ impl Walk {
         self.list.starts_unnamed(start_of_receive(comm, message))
     }
 
+    #[inline(never)]
     pub(super) fn exchanges(
         &mut self,
         at: &At<'_>,
@@ -241,6 +246,7 @@ impl Walk {
         self.list.does(&exchange_line(comm, sent, &message))
     }
 
+    #[inline(never)]
     pub(super) fn starts_exchange(
         &mut self,
         lines: &Lines,
@@ -270,6 +276,7 @@ impl Walk {
         self.list.does(&probe_line(comm, message))
     }
 
+    #[inline(never)]
     pub(super) fn probes(&mut self, at: &At<'_>, awaited: &Awaited) -> Result<(), Stop>
         ensures same { self.new ≡ record self.old { list = self.new.list } }
         ensures takes { (spot : Spot) → IsAt spot at.now → Takes spot (probes_on spot (awaited_view awaited.now)) result self.old.list self.new.list }
@@ -279,6 +286,7 @@ impl Walk {
     }
 
     /// A matching probe takes its message here.
+    #[inline(never)]
     pub(super) fn probes_matching(
         &mut self,
         at: &At<'_>,

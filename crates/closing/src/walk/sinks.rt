@@ -244,6 +244,7 @@ impl Walk {
     }
 
     /// The same, where receives may be sinks.
+    #[inline(never)]
     fn takes_sink_by(&mut self, lines: &Lines, at: &At<'_>, it: &Called<'_>) -> Result<bool, Stop>
         ensures same { self.new ≡ record self.old { list = self.new.list; sinks = self.new.sinks; pending = self.new.pending; left_out = self.new.left_out } }
         ensures takes { (spot : Spot) → Meets spot lines.now self.old.requests at.now it.now → spot.line ≡ self.old.line → ChoseBack spot at.now.came_back →

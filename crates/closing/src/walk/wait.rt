@@ -68,6 +68,7 @@ fn part(
 
 impl Walk {
     /// Puts the lines of an entry that is on no communicator.
+    #[inline(never)]
     pub(super) fn take_wait(
         &mut self,
         lines: &Lines,
