@@ -25,6 +25,7 @@ use crate::line::LineFault;
 use crate::line_window::Window;
 use crate::lines::Lines;
 use crate::reader::{NextLine, next_line};
+use crate::room::Room;
 use crate::text::TextInput;
 use mpicall::device::Input;
 use std::alloc::{AllocError, Global};
@@ -269,6 +270,7 @@ fn checked(known: &Known, lines: Lines) -> Result<Lines, JournalError>
 fn read_lines<I: Input>(
     mut reading: JournalReader,
     text: &mut TextInput<I>,
+    room: &mut Room,
     wait: &impl Wait,
 ) -> Result<Lines, JournalError>
     requires ranks { (owner_of reading.known).ranks ≡ reading.ranks }
@@ -287,7 +289,9 @@ fn read_lines<I: Input>(
             Ok(true) => {}
             Ok(false) => {
                 let JournalReader { lines, known, .. } = reading;
-                return checked(&known, lines);
+                let lines = checked(&known, lines);
+                room.keep(known.into_notes());
+                return lines;
             }
             Err(error) => return Err(error),
         }
@@ -298,7 +302,7 @@ fn read_lines<I: Input>(
 /// Reads the journal of a rank to its end: what it says, or its first fault. `first` is the header of rank
 /// 0's journal, if this is another's. A text may have no end, so this may wait for good.
 pub fn read_journal<I: Input>(
-    alloc: Global,
+    room: &mut Room,
     rank: u32,
     first: Option<&Header>,
     text: &mut TextInput<I>,
@@ -314,20 +318,20 @@ pub fn read_journal<I: Input>(
         Ok(None) => return Err(JournalError::Fault(NO_HEADER)),
         Err(error) => return Err(error),
     };
-    let header = match header_of(alloc, rank, first, held_line(&window, count)) {
+    let header = match header_of(room.alloc(), rank, first, held_line(&window, count)) {
         Ok(header) => header,
         Err(error) => return Err(error),
     };
     window.drop_front(count);
-    let known = Known::new(alloc, header.ranks, rank)?;
+    let known = Known::new(room.alloc(), header.ranks, rank, room.take())?;
     let reading = JournalReader {
         ranks: header.ranks,
         window,
-        lines: Lines::new(alloc),
+        lines: Lines::new(room.alloc()),
         known,
         number: 2,
     };
-    match read_lines(reading, text, wait) {
+    match read_lines(reading, text, room, wait) {
         Ok(lines) => Ok(Journal { header, lines }),
         Err(error) => Err(error),
     }

@@ -136,18 +136,31 @@ fn is_right_call(marks: &mut Marks, rank: u32, word: CallWord, fields: &[Field])
 }
 
 impl Known {
-    pub(crate) fn new(alloc: Global, ranks: u32, rank: u32) -> Result<Known, AllocError>
+    /// Before all lines. No note is known of a request.
+    pub(crate) fn new(
+        alloc: Global,
+        ranks: u32,
+        rank: u32,
+        notes: Notes,
+    ) -> Result<Known, AllocError>
+        requires { (number : ℕ) → note_at notes number ≡ None }
         ensures owner { IfOk result (λ known. owner_of known ≡ record { ranks = ranks; rank = rank }) }
         ensures knows { IfOk result (Knows []) }
     {
         Ok(Known {
             rank,
-            notes: Notes::new(alloc),
+            notes,
             comms: HashMap::new(alloc),
             marks: Marks::new(alloc, ranks)?,
             last: None,
             is_over: false,
         })
+    }
+
+    /// The notes, whose room others may use.
+    pub(crate) fn into_notes(self) -> Notes {
+        let Known { notes, .. } = self;
+        notes
     }
 
     fn ends_with_cut(&self) -> bool

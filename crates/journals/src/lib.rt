@@ -2,7 +2,7 @@
 //!
 //! A journal is a text with a header and one line a call, as `irecv 4 0 any 7`, each followed by the lines
 //! that report more of it or of an earlier request, as `=done 4 2 7`. This crate reads one from an input: its
-//! lines, or its first fault. The program doesn't use it yet.
+//! lines, or its first fault.
 //!
 //! What it promises, as contracts that are proved:
 //!
@@ -50,6 +50,7 @@ mod note_table;
 mod notes;
 mod reader;
 mod remembered;
+pub mod room;
 pub mod text;
 mod texts;
 pub mod word;

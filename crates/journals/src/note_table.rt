@@ -22,13 +22,21 @@ pub(crate) struct Notes {
 }
 
 impl Notes {
-    pub(crate) fn new(alloc: Global) -> Notes
+    /// No notes, in the room of a list.
+    pub(crate) fn of_none(alloc: Global, mut near: Vec<Option<Note>>) -> Notes
         ensures { (number : ℕ) → note_at result number ≡ None }
     {
+        near.clear();
         Notes {
-            near: Vec::new(alloc),
+            near,
             far: HashMap::new(alloc),
         }
+    }
+
+    /// The list, whose room others may use.
+    pub(crate) fn into_list(self) -> Vec<Option<Note>> {
+        let Notes { near, .. } = self;
+        near
     }
 
     /// That of a number in the map, which most runs leave empty.

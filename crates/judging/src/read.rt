@@ -10,6 +10,7 @@ ghost use Rattle.judging.specs.inner.OneJournal.{AnswersOne, fault_as, first_hea
 use journals::fault::JournalFault;
 use journals::journal::{Header, Journal, JournalError, read_journal};
 use journals::limits::MOST_RANKS;
+use journals::room::Room;
 use journals::text::TextInput;
 use mpicall::device::Input;
 use std::alloc::{AllocError, AllocFailed, Global};
@@ -72,7 +73,7 @@ fn fault_of(rank: u16, error: JournalError) -> ReadFault
 
 /// The journal of a rank; None where there is none. That of rank 0 has to be there.
 fn read_of<J: Journals>(
-    alloc: Global,
+    room: &mut Room,
     journals: &J,
     rank: u16,
     first: Option<&Header>,
@@ -87,7 +88,7 @@ fn read_of<J: Journals>(
         return Err(ReadFault::Open(rank));
     };
     let mut text = TextInput::new(input);
-    match read_journal(alloc, u32::from(rank), first, &mut text, wait) {
+    match read_journal(room, u32::from(rank), first, &mut text, wait) {
         Ok(journal) => Ok(Some(journal)),
         Err(error) => Err(fault_of(rank, error)),
     }
@@ -122,10 +123,17 @@ pub fn read_journals<J: Journals>(
     ensures run { IfOk result (λ all. AreOfFiles (J.known journals.now) all.items) }
     ensures fault { IfErr result (IsFaultOfFiles (J.known journals.now)) }
 {
+    let mut room = Room::new(alloc);
     let mut all = Vec::new(alloc);
-    all.push(read_of(alloc, journals, 0, None, wait)?)?;
+    all.push(read_of(&mut room, journals, 0, None, wait)?)?;
     for rank in 1..ranks_of(all.as_slice()) {
-        let journal = read_of(alloc, journals, rank, first_header(all.as_slice()), wait)?;
+        let journal = read_of(
+            &mut room,
+            journals,
+            rank,
+            first_header(all.as_slice()),
+            wait,
+        )?;
         all.push(journal)?;
     }
     Ok(all)

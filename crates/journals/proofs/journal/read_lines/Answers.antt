@@ -45,11 +45,11 @@ pub returns-in-Ok-false-clause-lines : goal.returns-in-Ok-false-clause-lines
 returns-in-Ok-false-clause-lines g c =
     let read = rw c.in-Ok-false.field-0-test at c.in-Ok-false.ensures.lines in
     let answered : AnswersComing (lines_to_come (owner_of c.loop.reading.known) c.loop.reading.lines (coming c.loop.reading.window (text_left g.I.Input.left c.loop.text))) (Ok c.read_next.new.self.lines) = read in
-    checked_last _ _ c.read_next.new.self.lines _ c.loop.invariant.on answered c.checked.ensures.lines
+    checked_last _ _ c.read_next.new.self.lines _ c.loop.invariant.on answered c.checked-lines.ensures.lines
 
 pub returns-in-Ok-false-clause-cut : goal.returns-in-Ok-false-clause-cut
 returns-in-Ok-false-clause-cut g c =
-    checked_cut c.args.reading.number _ _ c.checked.result c.checked.ensures.whole
+    checked_cut c.args.reading.number _ _ c.checked-lines.result c.checked-lines.ensures.whole
 
 pub returns-in-Err-clause-lines : goal.returns-in-Err-clause-lines
 returns-in-Err-clause-lines g c = checked_failed _ _ c.in-Err.error c.loop.invariant.on c.in-Err.ensures.lines
