@@ -288,7 +288,12 @@ fn read_lines<I: Input>(
         match reading.read_next(text, wait) {
             Ok(true) => {}
             Ok(false) => {
-                let JournalReader { lines, known, .. } = reading;
+                let JournalReader {
+                    mut lines,
+                    known,
+                    ..
+                } = reading;
+                room.fit(&mut lines);
                 let lines = checked(&known, lines);
                 room.keep(known.into_notes());
                 return lines;
@@ -327,7 +332,7 @@ pub fn read_journal<I: Input>(
     let reading = JournalReader {
         ranks: header.ranks,
         window,
-        lines: Lines::new(room.alloc()),
+        lines: room.lines(),
         known,
         number: 2,
     };

@@ -35,6 +35,23 @@ pub(crate) struct PackedLine {
     word: Word,
 }
 
+/// How many lines and fields some journal has.
+#[derive(Clone, Copy)]
+pub(crate) struct Size {
+    pub lines: usize,
+    pub fields: usize,
+}
+
+/// An empty list with room for so many, where there is memory for that.
+fn list_for<T: Drop>(alloc: Global, count: usize) -> Vec<T>
+    ensures { result.items ≡ [] }
+{
+    match Vec::with_capacity(alloc, count) {
+        Ok(list) => list,
+        Err(_) => Vec::new(alloc),
+    }
+}
+
 /// The lines of a journal after its header; contracts see their list.
 #[derive(Drop)]
 pub struct Lines {
@@ -74,13 +91,26 @@ impl Model for Lines {
 }
 
 impl Lines {
-    pub(crate) fn new(alloc: Global) -> Lines
+    /// No lines, with room for a journal of that size.
+    pub(crate) fn for_size(alloc: Global, size: Size) -> Lines
         ensures { result ≡ [] }
     {
         Lines {
-            lines: Vec::new(alloc),
-            fields: Vec::new(alloc),
+            lines: list_for(alloc, size.lines),
+            fields: list_for(alloc, size.fields),
             remembered: Remembered::new(),
+        }
+    }
+
+    /// Gives the room back that isn't used, and answers how much is.
+    pub(crate) fn fit(&mut self) -> Size
+        ensures { self.new ≡ self.old }
+    {
+        self.lines.shrink_to_fit();
+        self.fields.shrink_to_fit();
+        Size {
+            lines: self.lines.len(),
+            fields: self.fields.len(),
         }
     }
 

@@ -35,7 +35,7 @@ returns-in-Ok-read_lines-clause-journal g c =
     let next : ComesNext (coming [] (text_left g.I.Input.left c.args.text.now)) (take (c.in-Ok-Some.count - 1) c.find_line.new.window) (coming (drop c.in-Ok-Some.count c.find_line.new.window) (text_left g.I.Input.left c.find_line.new.text)) = subst (λ (w : List ℕ). ComesNext (coming w (text_left g.I.Input.left c.args.text.now)) (take (c.in-Ok-Some.count - 1) c.find_line.new.window) (coming (drop c.in-Ok-Some.count c.find_line.new.window) (text_left g.I.Input.left c.find_line.new.text))) c.new-window.ensures found in
     let short : is_too_long (take (c.in-Ok-Some.count - 1) c.find_line.new.window) ≡ false = held_short c.find_line.new.window c.in-Ok-Some.count is_line.some is_line.within is_line.short in
     let heads : HeadsJournal (option_map heading_in (option_copied c.args.first)) (heading_of c.args.rank (take (c.in-Ok-Some.count - 1) c.find_line.new.window)) (Ok c.in-Ok.header) = subst (λ (text : List ℕ). HeadsJournal (option_map heading_in (option_copied c.args.first)) (heading_of c.args.rank text) (Ok c.in-Ok.header)) c.held_line.ensures.line c.in-Ok.ensures in
-    let answers : AnswersComing (option_map unless_moved_wrongly (lines_to_come (record { ranks = c.in-Ok.header.ranks; rank = c.args.rank }) [] (coming (drop c.in-Ok-Some.count c.find_line.new.window) (text_left g.I.Input.left c.find_line.new.text)))) (Ok c.in-Ok-read_lines.lines) = answers_begun (owner_of c.in_ok-known.known) (record { ranks = c.in-Ok.header.ranks; rank = c.args.rank }) c.new-2.result c.drop_front.new.self (drop c.in-Ok-Some.count c.find_line.new.window) (text_left g.I.Input.left c.find_line.new.text) (Ok c.in-Ok-read_lines.lines) c.in_ok-known.ensures.owner c.new-2.ensures c.drop_front.ensures c.in-Ok-read_lines.ensures.lines in
+    let answers : AnswersComing (option_map unless_moved_wrongly (lines_to_come (record { ranks = c.in-Ok.header.ranks; rank = c.args.rank }) [] (coming (drop c.in-Ok-Some.count c.find_line.new.window) (text_left g.I.Input.left c.find_line.new.text)))) (Ok c.in-Ok-read_lines.lines) = answers_begun (owner_of c.in_ok-known.known) (record { ranks = c.in-Ok.header.ranks; rank = c.args.rank }) c.lines.result c.drop_front.new.self (drop c.in-Ok-Some.count c.find_line.new.window) (text_left g.I.Input.left c.find_line.new.text) (Ok c.in-Ok-read_lines.lines) c.in_ok-known.ensures.owner c.lines.ensures c.drop_front.ensures c.in-Ok-read_lines.ensures.lines in
     answers_all c.args.rank (option_map heading_in (option_copied c.args.first)) (text_left g.I.Input.left c.args.text.now) (take (c.in-Ok-Some.count - 1) c.find_line.new.window) (coming (drop c.in-Ok-Some.count c.find_line.new.window) (text_left g.I.Input.left c.find_line.new.text)) c.in-Ok.header c.in-Ok-read_lines.lines next short heads answers
 
 pub returns-in-Err-read_lines-clause-journal : goal.returns-in-Err-read_lines-clause-journal
@@ -46,7 +46,7 @@ returns-in-Err-read_lines-clause-journal g c =
     let next : ComesNext (coming [] (text_left g.I.Input.left c.args.text.now)) (take (c.in-Ok-Some.count - 1) c.find_line.new.window) (coming (drop c.in-Ok-Some.count c.find_line.new.window) (text_left g.I.Input.left c.find_line.new.text)) = subst (λ (w : List ℕ). ComesNext (coming w (text_left g.I.Input.left c.args.text.now)) (take (c.in-Ok-Some.count - 1) c.find_line.new.window) (coming (drop c.in-Ok-Some.count c.find_line.new.window) (text_left g.I.Input.left c.find_line.new.text))) c.new-window.ensures found in
     let short : is_too_long (take (c.in-Ok-Some.count - 1) c.find_line.new.window) ≡ false = held_short c.find_line.new.window c.in-Ok-Some.count is_line.some is_line.within is_line.short in
     let heads : HeadsJournal (option_map heading_in (option_copied c.args.first)) (heading_of c.args.rank (take (c.in-Ok-Some.count - 1) c.find_line.new.window)) (Ok c.in-Ok.header) = subst (λ (text : List ℕ). HeadsJournal (option_map heading_in (option_copied c.args.first)) (heading_of c.args.rank text) (Ok c.in-Ok.header)) c.held_line.ensures.line c.in-Ok.ensures in
-    let answers : AnswersComing (option_map unless_moved_wrongly (lines_to_come (record { ranks = c.in-Ok.header.ranks; rank = c.args.rank }) [] (coming (drop c.in-Ok-Some.count c.find_line.new.window) (text_left g.I.Input.left c.find_line.new.text)))) (Err c.in-Err-read_lines.error) = answers_begun (owner_of c.in_ok-known.known) (record { ranks = c.in-Ok.header.ranks; rank = c.args.rank }) c.new-2.result c.drop_front.new.self (drop c.in-Ok-Some.count c.find_line.new.window) (text_left g.I.Input.left c.find_line.new.text) (Err c.in-Err-read_lines.error) c.in_ok-known.ensures.owner c.new-2.ensures c.drop_front.ensures c.in-Err-read_lines.ensures.lines in
+    let answers : AnswersComing (option_map unless_moved_wrongly (lines_to_come (record { ranks = c.in-Ok.header.ranks; rank = c.args.rank }) [] (coming (drop c.in-Ok-Some.count c.find_line.new.window) (text_left g.I.Input.left c.find_line.new.text)))) (Err c.in-Err-read_lines.error) = answers_begun (owner_of c.in_ok-known.known) (record { ranks = c.in-Ok.header.ranks; rank = c.args.rank }) c.lines.result c.drop_front.new.self (drop c.in-Ok-Some.count c.find_line.new.window) (text_left g.I.Input.left c.find_line.new.text) (Err c.in-Err-read_lines.error) c.in_ok-known.ensures.owner c.lines.ensures c.drop_front.ensures c.in-Err-read_lines.ensures.lines in
     answers_wrong c.args.rank (option_map heading_in (option_copied c.args.first)) (text_left g.I.Input.left c.args.text.now) (take (c.in-Ok-Some.count - 1) c.find_line.new.window) (coming (drop c.in-Ok-Some.count c.find_line.new.window) (text_left g.I.Input.left c.find_line.new.text)) c.in-Ok.header c.in-Err-read_lines.error next short heads answers
 
 pub returns-in-Err-read_lines-clause-cut : goal.returns-in-Err-read_lines-clause-cut

@@ -45,7 +45,8 @@ pub returns-in-Ok-false-clause-lines : goal.returns-in-Ok-false-clause-lines
 returns-in-Ok-false-clause-lines g c =
     let read = rw c.in-Ok-false.field-0-test at c.in-Ok-false.ensures.lines in
     let answered : AnswersComing (lines_to_come (owner_of c.loop.reading.known) c.loop.reading.lines (coming c.loop.reading.window (text_left g.I.Input.left c.loop.text))) (Ok c.read_next.new.self.lines) = read in
-    checked_last _ _ c.read_next.new.self.lines _ c.loop.invariant.on answered c.checked-lines.ensures.lines
+    let fitted = subst (λ (lines : List Line). AnswersComing (lines_to_come (owner_of c.loop.reading.known) c.loop.reading.lines (coming c.loop.reading.window (text_left g.I.Input.left c.loop.text))) (Ok lines)) (sym c.fit.ensures) answered in
+    checked_last _ _ c.fit.new.lines _ c.loop.invariant.on fitted c.checked-lines.ensures.lines
 
 pub returns-in-Ok-false-clause-cut : goal.returns-in-Ok-false-clause-cut
 returns-in-Ok-false-clause-cut g c =
