@@ -81,9 +81,15 @@ impl Ledger {
     pub fn ranks(&self) -> u16
         ensures ranks { result ≡ length self.now.recording }
         ensures faults { length self.now.faults ≡ length self.now.recording }
-        ensures lawful { IsLawful self.now.groups self.now.recording }
     {
         self.analyser.head().ranks()
+    }
+
+    /// No call that was accepted has a fault after those of its rank before it. A law: it does nothing.
+    pub fn calls_are_lawful(&self)
+        ensures { IsLawful self.now.groups self.now.recording }
+    {
+        self.analyser.calls_are_lawful();
     }
 
     /// Whether a rank's records are still accepted.
@@ -146,7 +152,6 @@ impl Ledger {
     /// The refusal of the lowest rank that has a fault.
     pub fn refusal(&self) -> Option<Refusal>
         ensures value { result ≡ refusal_kept self.now }
-        ensures lawful { IsLawful self.now.groups self.now.recording }
     {
         for rank in 0..self.ranks() {
             if let Some((call, fault)) = self.faults[usize::from(rank)] {
@@ -172,6 +177,7 @@ impl Ledger {
         ensures none { result ≡ None → refusal_kept self.now ≡ None }
         ensures lawful { IsLawful self.now.groups self.now.recording }
     {
+        self.calls_are_lawful();
         match self.refusal() {
             _ if self.wanted => Some(CloseFault::Memory),
             Some(refusal) => Some(CloseFault::Refused(refusal)),

@@ -89,6 +89,7 @@ fn are_ended(pairs: &Pairs, ranks: u16) -> bool
 fn are_closed(pairs: &Pairs) -> bool
     ensures { (result ≡ true) ↔ IsClosed pairs.now.recording }
 {
+    pairs.calls_are_lawful();
     are_ended(pairs, pairs.head().ranks())
 }
 
@@ -183,9 +184,15 @@ impl Analyser {
     pub fn head(&self) -> &Head
         ensures value { result.now ≡ self.now.groups }
         ensures ranks { length self.now.recording ≡ ranks_of self.now.groups }
-        ensures lawful { IsLawful self.now.groups self.now.recording }
     {
         self.world.pairs.head()
+    }
+
+    /// No call that was accepted has a fault after those of its rank before it. A law: it does nothing.
+    pub fn calls_are_lawful(&self)
+        ensures { IsLawful self.now.groups self.now.recording }
+    {
+        self.world.pairs.calls_are_lawful();
     }
 
     /// The ranks stand where every maximal run over the calls that were accepted ends. A law: it does nothing.

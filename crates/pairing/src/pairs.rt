@@ -171,9 +171,16 @@ impl Pairs {
     pub fn head(&self) -> &Head
         ensures value { result.now ≡ self.now.groups }
         ensures ranks { length self.now.recording ≡ ranks_of self.now.groups }
-        ensures lawful { IsLawful self.now.groups self.now.recording }
     {
         &self.kept.head
+    }
+
+    /// No call that was added has a fault after those of its rank before it. A law: it does nothing.
+    pub fn calls_are_lawful(&self)
+        ensures { IsLawful self.now.groups self.now.recording }
+    {
+        // For the proof: what the type says of the calls is known once its head is read.
+        let _head = &self.kept.head;
     }
 
     /// How many calls of a rank were added; None where there is no such rank.

@@ -36,8 +36,7 @@ fn is_lost(pairs: &Pairs, rank: u16, place: u32, req: u32) -> bool
     requires { option_and_then starts (call_at pairs.now.recording rank place) ≡ Some req }
     ensures { result ≡ is_lost pairs.now.recording rank req place }
 {
-    // For the proof: the recording is lawful.
-    let _head = pairs.head();
+    pairs.calls_are_lawful();
     is_active(pairs, rank, place, req) && !is_left_open(pairs, rank)
 }
 
@@ -67,8 +66,7 @@ fn add_of_rank(findings: &mut Vec<Finding>, pairs: &Pairs, rank: u16) -> Result<
     ensures { OnOk result (findings.new.items
         ≡ findings.old.items ++ over_places (lost_at pairs.now.recording rank) pairs.now.recording rank) }
 {
-    // For the proof: the recording is lawful.
-    let _head = pairs.head();
+    pairs.calls_are_lawful();
     if !pairs.may_have_active(rank) {
         return Ok(());
     }

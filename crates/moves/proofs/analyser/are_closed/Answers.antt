@@ -7,4 +7,4 @@ pub returns : goal.returns
 returns c =
     let p = c.args.pairs.now in
     let many : c.ranks.result ≡ length p.recording = c.ranks.ensures.value ∙ ap ranks_of c.head.ensures.value ∙ sym c.head.ensures.ranks in
-    closed_where_ended p.groups p.recording c.ranks.result c.are_ended.result c.head.ensures.lawful many c.are_ended.ensures
+    closed_where_ended p.groups p.recording c.ranks.result c.are_ended.result c.calls_are_lawful.ensures many c.are_ended.ensures
