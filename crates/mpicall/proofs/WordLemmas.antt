@@ -6,7 +6,7 @@ use Rattle.std.proofs.lemmas.Slice.Eq.{bytes_eq-Decides}
 use Rattle.std.proofs.lemmas.Bool.Decides.{nat_tests}
 use Rattle.std.proofs.lemmas.Bool.{and_parts}
 use Rattle.mpicall.proofs.ArgumentLemmas.{above_space, map_some, le_from}
-use Rattle.mpicall.specs.Word.{collective_text, operation_text, text_of, start_letter, with_text, or_else, collectives, messages, name_text, name_in, named_of, collective_of, operation_of, started_word, word_of}
+use Rattle.mpicall.specs.Word.{names, collective_text, operation_text, text_of, start_letter, with_text, or_else, collectives, messages, name_text, name_in, named_of, collective_of, operation_of, started_word, word_of}
 use Rattle.mpicall.specs.declared.call.Mode.TheVariants.{Standard}
 use Rattle.mpicall.specs.declared.word.Collective.{Collective}
 use Rattle.mpicall.specs.declared.word.Collective.TheVariants.{Barrier}
@@ -16,7 +16,6 @@ use Rattle.mpicall.specs.declared.word.Word.{Word}
 use Rattle.mpicall.specs.declared.word.Word.TheVariants.{Blocking, Started, Named}
 use Rattle.mpicall.specs.declared.word.Name.{Name}
 use Rattle.mpicall.specs.declared.word.Name.TheVariants.{Waitall}
-use Rattle.mpicall.specs.declared.word.TheConstants.{NAMES}
 
 -- What is found has the text.
 
@@ -78,8 +77,8 @@ in_rows (row ∷ rows) text name has e =
 
 named_has : (text : List ℕ) (w : Word) → named_of text ≡ Some w → text ≡ text_of w
 named_has text w e =
-    let found = map_some Named (name_in (map (λ row. (row.0.now, row.1)) NAMES) text) w e in
-    rw found.2 (in_rows (map (λ row. (row.0.now, row.1)) NAMES) text found.0 refl found.1)
+    let found = map_some Named (name_in (map (λ row. (row.0, row.1)) names) text) w e in
+    rw found.2 (in_rows (map (λ row. (row.0, row.1)) names) text found.0 refl found.1)
 
 pub word_has : (text : List ℕ) (w : Word) → word_of text ≡ Some w → text ≡ text_of w
 unfolding word_of

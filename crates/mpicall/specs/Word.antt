@@ -11,10 +11,10 @@ use Rattle.mpicall.specs.declared.word.Operation.TheVariants.{Send, Recv, Coll}
 use Rattle.mpicall.specs.declared.word.Word.{Word}
 use Rattle.mpicall.specs.declared.word.Word.TheVariants.{Blocking, Started, Named}
 use Rattle.mpicall.specs.declared.word.Name.{Name}
+use Rattle.mpicall.specs.declared.word.Name.TheVariants as name
 use Rattle.mpicall.specs.contracts.word.Name.{the_type}
 use Rattle.mpicall.specs.declared.word.Layout.{Layout}
-use Rattle.mpicall.specs.declared.word.Layout.TheVariants.{Nothing}
-use Rattle.mpicall.specs.declared.word.TheConstants.{NAMES}
+use Rattle.mpicall.specs.declared.word.Layout.TheVariants as layout
 
 abbrev pub collective_text : Collective → List ℕ
 collective_text Barrier = codes "barrier"
@@ -39,12 +39,19 @@ operation_text (Coll collective) = collective_text collective
 abbrev pub start_letter : ℕ
 start_letter = 105
 
--- what the table of names says of a name: its text, and what follows it
+-- the words that are no operation's, each with its text and with what follows it
+abbrev pub names : List (List ℕ × Name × Layout)
+names =
+    (codes "waitall", name.Waitall, layout.Requests) ∷ (codes "wait", name.Wait, layout.Request) ∷ (codes "waitany", name.Waitany, layout.Chosen)
+    ∷ (codes "sendrecv", name.Sendrecv, layout.Exchange) ∷ (codes "dup", name.Dup, layout.Copy) ∷ (codes "split", name.Split, layout.Split)
+    ∷ (codes "finalize", name.Finalize, layout.Nothing) ∷ (codes "probe", name.Probe, layout.Message) ∷ (codes "open", name.Open, layout.Nothing) ∷ []
+
+-- what these say of a name: its text, and what follows it
 abbrev pub name_text : Name → List ℕ
-name_text name = get_or (map (λ row. row.0.now) NAMES) (tag_of the_type name) []
+name_text name = get_or (map (λ row. row.0) names) (tag_of the_type name) []
 
 abbrev pub layout_of : Name → Layout
-layout_of name = get_or (map (λ row. row.2) NAMES) (tag_of the_type name) Nothing
+layout_of name = get_or (map (λ row. row.2) names) (tag_of the_type name) layout.Nothing
 
 -- the letter before a word, and the text after that
 abbrev pub letter_of : Word → List ℕ
@@ -93,7 +100,7 @@ name_in [] text = None
 name_in (row ∷ rows) text = if bytes_eq text row.0 then Some row.1 else name_in rows text
 
 abbrev pub named_of : List ℕ → Option Word
-named_of text = option_map Named (name_in (map (λ row. (row.0.now, row.1)) NAMES) text)
+named_of text = option_map Named (name_in (map (λ row. (row.0, row.1)) names) text)
 
 unfoldable pub word_of : List ℕ → Option Word
 word_of text = or_else (option_map Blocking (operation_of text)) (or_else (started_word text) (named_of text))

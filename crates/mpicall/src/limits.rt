@@ -1,5 +1,7 @@
 //! The limits of a trace, each standing here once; definitions cite these constants.
 
+ghost use Rattle.mpicall.specs.Limits.{TheLimitsOfATrace};
+
 /// The greatest communicator number; 0 is the world.
 pub const GREATEST_COMM: u16 = 4095;
 
@@ -26,3 +28,8 @@ pub const MOST_REQUESTS: usize = 64;
 
 /// The most bytes of a trace's line, its line feed counted.
 pub const MOST_LINE_BYTES: usize = 1024;
+
+/// The limits are those that the definitions give in numbers. A law: it does nothing.
+pub fn the_limits_of_a_trace()
+    ensures { TheLimitsOfATrace }
+{}

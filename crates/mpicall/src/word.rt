@@ -1,8 +1,9 @@
 //! The words of the format. A call that starts an operation has an `i` before the operation's word.
 
 ghost use Rattle.std.specs.Prelude.{◌≡◌, ◌≤◌, length, map};
-ghost use Rattle.mpicall.specs.Word.{collective_of, operation_of, started_word, name_in, named_of, word_of, layout_of, letter_of, stem_of, collective_text, operation_text};
+ghost use Rattle.mpicall.specs.Word.{names, collective_of, operation_of, started_word, name_in, named_of, word_of, layout_of, letter_of, stem_of, collective_text, operation_text};
 ghost use Rattle.mpicall.specs.Spelling.{name_of, root_of, word_of_call};
+ghost use Rattle.mpicall.specs.declared.word.TheConstants.{NAMES};
 
 use crate::call::{Call, Kind, Mode};
 
@@ -76,6 +77,11 @@ pub const NAMES: [(&str, Name, Layout); 9] = [
     ("probe", Name::Probe, Layout::Message),
     ("open", Name::Open, Layout::Nothing),
 ];
+
+/// The table is that of the definitions. A law: it does nothing.
+pub fn the_names_are_those_of_the_format()
+    ensures { map (λ row. (row.0.now, row.1, row.2)) NAMES ≡ names }
+{}
 
 /// A word that a line may begin with.
 #[derive(Clone, Copy, PartialEq, Eq)]

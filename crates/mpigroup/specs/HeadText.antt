@@ -3,16 +3,23 @@
 -- whose group is the ranks in order. The fault of a head is the first fault of its first line that has
 -- one.
 use Rattle.mpicall.specs.Names.{Rank}
-use Rattle.std.specs.Prelude.{ℕ, ◌+◌, Bool, false, ◌&&◌, ◌||◌, not, ◌==◌, nat_le, nat_lt, Result, Ok, Err, if◌then◌else◌, List, [], ◌∷◌, length, map, drop, codes}
+use Rattle.std.specs.Prelude.{◌≡◌, ℕ, ◌+◌, Bool, false, ◌&&◌, ◌||◌, not, ◌==◌, nat_le, nat_lt, Result, Ok, Err, if◌then◌else◌, List, [], ◌∷◌, length, map, drop, codes}
 use Rattle.std.specs.List.{list_all, list_any, range_with_len}
 use Rattle.std.specs.Str.{bytes_eq}
 use Rattle.mpicall.specs.Lines.{lines_of, has_line_feed, split_fields, body_of}
 use Rattle.mpicall.specs.Number.{is_canonical, value_of}
 use Rattle.mpigroup.specs.Groups.{Groups}
-use Rattle.mpigroup.specs.declared.limits.TheConstants.{MOST_RANKS, MOST_COMMS, MOST_HEAD_LINE_BYTES}
+use Rattle.mpigroup.specs.declared.limits.TheConstants.{MOST_RANKS, MOST_COMMS, MOST_HEAD_LINE_BYTES, DECIDING_BYTES}
 use Rattle.mpigroup.specs.declared.fault.HeadFault.{HeadFault}
 use Rattle.mpigroup.specs.declared.fault.HeadFaultKind.{HeadFaultKind}
 use Rattle.mpigroup.specs.declared.fault.HeadFaultKind.TheVariants.{FirstLine, RankCount, CommLine, Group, TooManyComms, LineForm}
+
+-- Law: the limits of a head, in numbers.
+pub record TheLimitsOfAHead : Type 0 where
+  pub most_ranks : MOST_RANKS ≡ 1024
+  pub most_comms : MOST_COMMS ≡ 4096
+  pub most_head_line_bytes : MOST_HEAD_LINE_BYTES ≡ 4096
+  pub deciding_bytes : DECIDING_BYTES ≡ 16777217
 
 -- the line isn't too long for a head, and ends with its line feed
 abbrev pub is_head_line : List ℕ → Bool
