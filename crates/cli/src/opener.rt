@@ -1,11 +1,13 @@
 //! Opening the files that the command line names.
 
 ghost use Rattle.std.specs.Prelude.{◌≡◌, ℕ, Bool, true, false, ⊤, Option, None, List, IfNone, IfSome};
+ghost use Rattle.mpicall.specs.Devices.{counted_failures};
 
 use mpicall::counted::Counted;
-use mpicall::device::{Input, Output};
+use mpicall::device::{DeviceFault, Input, Output};
 use std::fs;
 use std::fs::OpenOptions;
+use std::io::Read;
 use std::rt::Files;
 
 /// What opens the inputs that paths name: `told` is the text of the file with a path, where the opener
@@ -65,6 +67,22 @@ pub trait Maker {
     fn create_output(&self, path: &str) -> Option<Self::Out>;
 }
 
+/// A file of the machine, of which it isn't known what it holds.
+#[derive(Drop)]
+pub struct Untold<F> {
+    file: Counted<F>,
+}
+
+impl<F: Read> Input for Untold<F> {
+    ghost left = { λ _. None };
+
+    ghost failures = { λ untold. counted_failures untold.file };
+
+    fn read_some(&mut self, into: &mut [u8]) -> Result<usize, DeviceFault> {
+        self.file.read_some(into)
+    }
+}
+
 /// The files of the machine. What they hold isn't known, nor which there are.
 #[derive(Drop)]
 pub struct Disk<'a, R>(pub &'a R);
@@ -73,15 +91,17 @@ impl<R: Files> Opener for Disk<'_, R>
 where
     R::File: Send,
 {
-    type In = Counted<R::File>;
+    type In = Untold<R::File>;
 
     ghost told = { λ _ _. None };
 
     ghost named = { λ _ _. None };
 
-    fn open_input(&self, path: &str) -> Option<Counted<R::File>> {
+    fn open_input(&self, path: &str) -> Option<Untold<R::File>> {
         match fs::open(self.0, path) {
-            Ok(file) => Some(Counted::new(file)),
+            Ok(file) => Some(Untold {
+                file: Counted::new(file),
+            }),
             Err(_) => None,
         }
     }

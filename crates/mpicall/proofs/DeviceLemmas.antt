@@ -1,6 +1,6 @@
 -- How writes add up.
-use Rattle.std.proofs.Common.{◌≡◌, ℕ, ◌+◌, ◌-◌, List, ◌++◌, length, take, drop, append_assoc, ap, ◌∙◌, arith, Option, Some, None}
-use Rattle.std.specs.Io.KnownBytes.{Appends}
+use Rattle.std.proofs.Common.{◌≡◌, ℕ, ◌+◌, ◌-◌, List, [], ◌++◌, length, take, drop, append_assoc, append-nil, ap, ◌∙◌, arith, Option, Some, None}
+use Rattle.std.specs.Io.KnownBytes.{Appends, Keeps}
 use Rattle.std.proofs.Math.Seq.{take-add}
 use Rattle.std.proofs.lemmas.List.{take_all, length-drop}
 
@@ -17,3 +17,9 @@ Appends-more a b c done n bytes p q =
     let rest : take (length bytes - done) (drop done bytes) ≡ drop done bytes = take_all _ (drop done bytes) (omega (arith, length-drop done bytes)) in
     let both = Appends-append a b c (take done bytes) (take n (drop done bytes)) p (rw rest at q) in
     rw take-add both
+
+-- nothing was written
+pub keeps_without : (old new : Option (List ℕ)) → Appends old new [] → Keeps old new
+keeps_without None new p = tt
+keeps_without (Some xs) None p = absurd p
+keeps_without (Some xs) (Some ys) p = p ∙ append-nil xs

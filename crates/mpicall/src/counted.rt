@@ -1,7 +1,7 @@
-//! Readers and writers of std as devices, with a count of their failures. What a file, a pipe or a
-//! terminal gives or takes is not told.
+//! Readers and writers of std as devices, with a count of their failures. A device tells the bytes that its reader or
+//! writer tells, as those over memory do; what a file, a pipe or a terminal gives or takes is not told.
 
-ghost use Rattle.std.specs.Prelude.{◌≡◌, None};
+ghost use Rattle.std.specs.Prelude.{◌≡◌};
 
 use crate::device::{DeviceFault, Input, Output};
 use std::io::{Read, Write};
@@ -32,7 +32,8 @@ impl<T> Counted<T> {
     }
 
     fn count_failure(&mut self) -> DeviceFault
-        ensures { counted_failures self.new ≡ one_more (counted_failures self.old) }
+        ensures count { counted_failures self.new ≡ one_more (counted_failures self.old) }
+        ensures inner { self.new.inner ≡ self.old.inner }
     {
         let Counted { failures, .. } = self;
         *failures = failures.saturating_add(1);
@@ -41,7 +42,7 @@ impl<T> Counted<T> {
 }
 
 impl<R: Read> Input for Counted<R> {
-    ghost left = { λ _. None };
+    ghost left = { λ c. R.remaining c.inner };
 
     ghost failures = { λ c. c.failures };
 
@@ -54,7 +55,7 @@ impl<R: Read> Input for Counted<R> {
 }
 
 impl<W: Write> Output for Counted<W> {
-    ghost written = { λ _. None };
+    ghost written = { λ c. W.contents c.inner };
 
     ghost failures = { λ c. c.failures };
 
