@@ -649,7 +649,7 @@ what_stays run longer choice rank strict with_sinks read read_longer long kept n
       active = tt;
       late = refl;
       sends = tt;
-      quiet = λ request sent. plain_quiet request 0 (preface_of run rank);
+      quiet = λ requested sent. plain_quiet requested 0 (preface_of run rank);
       covers = λ request none. refl;
     } in
     subst (λ (progress : Progress). StaysWithSinks (entries_at run rank) (whole_list run choice rank).records (list_from longer choice progress (with_lines (entries_at run rank) (entries_at longer rank))).records)
