@@ -85,13 +85,13 @@ module _ (told : Text → Option Text) (head : Text) (files : List (Bor Text)) w
   by_failure refusal false of_run is = (of_run, is)
 
   -- the fault of a run over the files' sources
-  pub run_fault_says : {I : Type 0} (left : I → Option Text) (may_stop : ℕ → ℕ → Type 0) (sources : List (Source I)) (groups : Groups) (fault : RunFault) →
-      length sources ≡ length files → IsCounted told head files groups → RefusesFeeds left may_stop sources groups fault → StopsWhereAllowed may_stop fault → ((rank line : ℕ) → may_stop rank line → ⊥) → ((texts : List Text) → map (λ file. told file.now) files ≡ map Some texts → (traces : List Trace) → AreTracesOf texts traces → RefusesOver groups traces fault) → IsFaultOfCheck told head files (of_run fault)
-  run_fault_says left may_stop sources groups run.Memory count counted fed stops never refuses = tt
-  run_fault_says left may_stop sources groups (run.Unproved rank) count counted fed stops never refuses = (subst (λ n. rank < n) (sym counted.one_a_rank) fed, (groups, counted))
-  run_fault_says left may_stop sources groups run.Write count counted fed stops never refuses = tt
-  run_fault_says left may_stop sources groups (run.Refused refusal) count counted fed stops never refuses =
-      let lowest = lowest_refusal left may_stop sources groups refusal (count ∙ counted.one_a_rank) fed in
+  pub run_fault_says : {I : Type 0} (left : I → Option Text) (may_answer : ℕ → ℕ → Bool → Type 0) (sources : List (Source I)) (groups : Groups) (fault : RunFault) →
+      length sources ≡ length files → IsCounted told head files groups → RefusesFeeds left may_answer sources groups fault → StopsWhereAllowed may_answer fault → ((rank line : ℕ) → may_answer rank line false → ⊥) → ((texts : List Text) → map (λ file. told file.now) files ≡ map Some texts → (traces : List Trace) → AreTracesOf texts traces → RefusesOver groups traces fault) → IsFaultOfCheck told head files (of_run fault)
+  run_fault_says left may_answer sources groups run.Memory count counted fed stops never refuses = tt
+  run_fault_says left may_answer sources groups (run.Unproved rank) count counted fed stops never refuses = (subst (λ n. rank < n) (sym counted.one_a_rank) fed, (groups, counted))
+  run_fault_says left may_answer sources groups run.Write count counted fed stops never refuses = tt
+  run_fault_says left may_answer sources groups (run.Refused refusal) count counted fed stops never refuses =
+      let lowest = lowest_refusal left may_answer sources groups refusal (count ∙ counted.one_a_rank) fed in
       by_failure refusal (is_from_outside refusal.fault) (record { groups = groups; counted = counted; is_rank = omega (arith, lowest.is_rank, counted.one_a_rank); unstopped = λ is. never _ _ (stops is); of_traces = refuses }) refl
 
 -- what a run leaves on the output at a fault

@@ -1,6 +1,6 @@
 -- What the items of the ranks' feeds say of the traces that the sources tell.
 use Rattle.moves.specs.declared.reading.Reading.{Reading}
-use Rattle.std.proofs.Common.{◌≡◌, ⊎_elim, ℕ, zero, suc, ◌+◌, ◌<◌, ◌-◌, Bool, true, false, Option, Some, None, Ok, Err, IfOk, IfErr, IfSome, unwrap_or, option_and_then, Result, All, List, [], ◌∷◌, ◌++◌, length, map, slice_get, refl, sym, ap, subst, ◌∙◌, arith, append_assoc, append-nil, get_or, inl, inr}
+use Rattle.std.proofs.Common.{◌≡◌, ⊎_elim, ℕ, zero, suc, ◌+◌, ◌<◌, ◌-◌, Bool, true, false, Option, Some, None, Ok, Err, IfOk, IfErr, OnOk, IfSome, unwrap_or, option_and_then, Result, All, List, [], ◌∷◌, ◌++◌, length, map, slice_get, refl, sym, ap, subst, ◌∙◌, arith, append_assoc, append-nil, get_or, inl, inr}
 use Rattle.std.specs.List.{range_with_len}
 use Rattle.std.proofs.lemmas.List.FromFn.{length-range_with_len}
 use Rattle.std.proofs.lemmas.Option.{none-some, slice_get-map, slice_get-get_or, slice_get_within}
@@ -35,7 +35,7 @@ use Rattle.gather.specs.Receipts.{trace_of_items, AreReceiptsOf, missing_from, f
 use Rattle.gather.specs.Collected.{Kept, nothing_kept}
 use Rattle.gather.specs.Collectors.{rings, kept}
 use Rattle.driver.proofs.ToldLemmas.{read_is_to_come, to_come_is_read, told_if_whole, whole_if_told}
-use Rattle.driver.specs.Runs.{end_by, AreRead, IsReadAs, IsReadOrNotStarted, IsRefusalOfFeeds, RefusesFeeds, StopsWhereAllowed}
+use Rattle.driver.specs.Runs.{end_by, AcceptsFeeds, AreRead, IsReadAs, IsReadOrNotStarted, IsRefusalOfFeeds, RefusesFeeds, StopsWhereAllowed}
 use Rattle.driver.specs.inner.Runs.{receipt_of, receipt_in, AreFedBy, IsOutcomeOfFeeds, IsSameSession, of_close}
 use Rattle.gather.specs.declared.outcome.CloseFault.{CloseFault}
 use Rattle.gather.specs.declared.outcome.CloseFault.TheVariants.{Memory, Unproved, Refused}
@@ -153,38 +153,40 @@ ends_as told calls (Torn ThreadNotStarted) read = (read.0, read.1 ∙ sym (mark_
 ends_as told calls (Torn ReadFailed) read = read
 ends_as told calls (Torn GateStopped) read = read
 
-fed_of_read : {I : Type 0} (left : I → Option (List ℕ)) (source : Source I) (may_stop : ℕ → Type 0) (trace : Trace) → IsReadOrNotStarted (IsToCome left source) may_stop trace → IsFedOrNotStarted (coming left source) may_stop (marked trace.records trace.end)
-fed_of_read left source may_stop trace (inl read) = inl (record {
+fed_of_read : {I : Type 0} (left : I → Option (List ℕ)) (source : Source I) (may_answer : ℕ → Bool → Type 0) (trace : Trace) → IsReadOrNotStarted (IsToCome left source) may_answer trace → IsFedOrNotStarted (coming left source) may_answer (marked trace.records trace.end)
+fed_of_read left source may_answer trace (inl read) = inl (record {
   calls = trace.records;
   end = trace.end;
   are = refl;
   whole = told_if_whole (coming left source) (λ (t : Trace). EndsAs t trace.records trace.end)
       (λ told is. ends_as told trace.records trace.end (read.whole told (read_is_to_come left source told is)));
   stopped = read.stopped;
+  asked = read.asked;
 })
-fed_of_read left source may_stop trace (inr none) = inr (ap (λ (t : Trace). marked t.records t.end) none)
+fed_of_read left source may_answer trace (inr none) = inr (ap (λ (t : Trace). marked t.records t.end) none)
 
-read_of_fed : {I : Type 0} (left : I → Option (List ℕ)) (source : Source I) (may_stop : ℕ → Type 0) (items : List Item) → IsFedOrNotStarted (coming left source) may_stop items → IsReadOrNotStarted (IsToCome left source) may_stop (trace_of_items items)
-read_of_fed left source may_stop items (inl fed) =
+read_of_fed : {I : Type 0} (left : I → Option (List ℕ)) (source : Source I) (may_answer : ℕ → Bool → Type 0) (items : List Item) → IsFedOrNotStarted (coming left source) may_answer items → IsReadOrNotStarted (IsToCome left source) may_answer (trace_of_items items)
+read_of_fed left source may_answer items (inl fed) =
     let is : trace_of_items items ≡ trace_by fed.calls fed.end = held_trace fed.calls fed.end items fed.are in
-    subst (λ (t : Trace). IsReadOrNotStarted (IsToCome left source) may_stop t) (sym is) (inl (record {
+    subst (λ (t : Trace). IsReadOrNotStarted (IsToCome left source) may_answer t) (sym is) (inl (record {
       whole = λ told known. read_as told fed.calls fed.end
           (whole_if_told (coming left source) (λ (t : Trace). EndsAs t fed.calls fed.end) told fed.whole (to_come_is_read left source told known));
       stopped = fed.stopped;
+      asked = fed.asked;
     }))
-read_of_fed left source may_stop items (inr none) = inr (held_trace [] (Torn ThreadNotStarted) items none)
+read_of_fed left source may_answer items (inr none) = inr (held_trace [] (Torn ThreadNotStarted) items none)
 
 read_fault : (groups : Groups) (rank : ℕ) (trace : Trace) → fault_of_rank groups rank (trace_of_items (marked trace.records trace.end)) ≡ fault_of_rank groups rank trace
 unfolding fault_of_rank
 read_fault groups rank trace = fault_held groups rank trace.records trace.end (marked trace.records trace.end) refl
 
 -- a fault over the items that doesn't come from outside is that of the trace, and so is none
-agrees : (groups : Groups) (rank : ℕ) (trace : Trace) (may_stop : ℕ → Type 0) (items : List Item) → IsFedOrNotStarted (Some trace) may_stop items → outside_at (fault_of_rank groups rank (trace_of_items items)) ≡ false → fault_of_rank groups rank (trace_of_items items) ≡ fault_of_rank groups rank trace
+agrees : (groups : Groups) (rank : ℕ) (trace : Trace) (may_answer : ℕ → Bool → Type 0) (items : List Item) → IsFedOrNotStarted (Some trace) may_answer items → outside_at (fault_of_rank groups rank (trace_of_items items)) ≡ false → fault_of_rank groups rank (trace_of_items items) ≡ fault_of_rank groups rank trace
 unfolding fault_of_rank
-agrees groups rank trace may_stop items (inl own) inside =
+agrees groups rank trace may_answer items (inl own) inside =
     let is = fault_held groups rank own.calls own.end items own.are in
     is ∙ agrees_as groups rank trace own.calls own.end own.whole (ap outside_at (sym is) ∙ inside)
-agrees groups rank trace may_stop items (inr none) inside = absurd (false≢true (sym inside ∙ ap outside_at (fault_held groups rank [] (Torn ThreadNotStarted) items none)))
+agrees groups rank trace may_answer items (inr none) inside = absurd (false≢true (sym inside ∙ ap outside_at (fault_held groups rank [] (Torn ThreadNotStarted) items none)))
 
 -- without a fault the records are the trace's
 
@@ -192,12 +194,12 @@ records_as : (groups : Groups) (rank : ℕ) (trace : Trace) (calls : List Call) 
 records_as groups rank trace calls Sealed ends none = sym ends.0
 records_as groups rank trace calls (Torn fault) ends none = absurd (torn_has_fault groups rank [] calls fault none)
 
-accepts_told : (groups : Groups) (rank : ℕ) (told : Option Trace) (may_stop : ℕ → Type 0) (items : List Item) (calls : List Call) → IsFedOrNotStarted told may_stop items → calls ≡ calls_among items → fault_of_rank groups rank (trace_of_items items) ≡ None → AcceptsRank groups rank told calls
-accepts_told groups rank None may_stop items calls fed are none = tt
-accepts_told groups rank (Some trace) may_stop items calls fed are none =
-    let same = agrees groups rank trace may_stop items fed (ap outside_at none) in (
+accepts_told : (groups : Groups) (rank : ℕ) (told : Option Trace) (may_answer : ℕ → Bool → Type 0) (items : List Item) (calls : List Call) → IsFedOrNotStarted told may_answer items → calls ≡ calls_among items → fault_of_rank groups rank (trace_of_items items) ≡ None → AcceptsRank groups rank told calls
+accepts_told groups rank None may_answer items calls fed are none = tt
+accepts_told groups rank (Some trace) may_answer items calls fed are none =
+    let same = agrees groups rank trace may_answer items fed (ap outside_at none) in (
       ⊎_elim
-          (λ (own : IsFed (Some trace) may_stop items).
+          (λ (own : IsFed (Some trace) may_answer items).
           are ∙ ap calls_among own.are ∙ marked_calls own.calls own.end ∙ records_as groups rank trace own.calls own.end own.whole (sym (fault_held groups rank own.calls own.end items own.are) ∙ none))
           (λ (not_started : items ≡ marked [] (Torn ThreadNotStarted)).
           absurd (torn_has_fault groups rank [] [] ThreadNotStarted (sym (fault_held groups rank [] (Torn ThreadNotStarted) items not_started) ∙ none)))
@@ -205,13 +207,13 @@ accepts_told groups rank (Some trace) may_stop items calls fed are none =
       sym same ∙ none,
     )
 
-no_fault_told : (groups : Groups) (rank : ℕ) (told : Option Trace) (may_stop : ℕ → Type 0) (items : List Item) → IsFedOrNotStarted told may_stop items → fault_of_rank groups rank (trace_of_items items) ≡ None → HasNoFault groups rank told
-no_fault_told groups rank None may_stop items fed none = tt
-no_fault_told groups rank (Some trace) may_stop items fed none = sym (agrees groups rank trace may_stop items fed (ap outside_at none)) ∙ none
+no_fault_told : (groups : Groups) (rank : ℕ) (told : Option Trace) (may_answer : ℕ → Bool → Type 0) (items : List Item) → IsFedOrNotStarted told may_answer items → fault_of_rank groups rank (trace_of_items items) ≡ None → HasNoFault groups rank told
+no_fault_told groups rank None may_answer items fed none = tt
+no_fault_told groups rank (Some trace) may_answer items fed none = sym (agrees groups rank trace may_answer items fed (ap outside_at none)) ∙ none
 
-own_told : (groups : Groups) (told : Option Trace) (may_stop : ℕ → Type 0) (items : List Item) (refusal : Refusal) → IsFedOrNotStarted told may_stop items → fault_of_rank groups refusal.rank (trace_of_items items) ≡ Some (refusal.call, refusal.fault) → IfSome told (λ trace. IsRefusalOf groups refusal.rank trace refusal)
-own_told groups None may_stop items refusal fed is = tt
-own_told groups (Some trace) may_stop items refusal fed is = λ inside. sym (agrees groups refusal.rank trace may_stop items fed (ap outside_at is ∙ inside)) ∙ is
+own_told : (groups : Groups) (told : Option Trace) (may_answer : ℕ → Bool → Type 0) (items : List Item) (refusal : Refusal) → IsFedOrNotStarted told may_answer items → fault_of_rank groups refusal.rank (trace_of_items items) ≡ Some (refusal.call, refusal.fault) → IfSome told (λ trace. IsRefusalOf groups refusal.rank trace refusal)
+own_told groups None may_answer items refusal fed is = tt
+own_told groups (Some trace) may_answer items refusal fed is = λ inside. sym (agrees groups refusal.rank trace may_answer items fed (ap outside_at is ∙ inside)) ∙ is
 
 -- where the gate stopped a rank's records
 
@@ -246,18 +248,18 @@ unfolding gate_at
 sealed_stops_none true calls at is e = let h : None ≡ Some (at, OfSource GateStopped) = rw is at e in false≢true (ap gate_at h)
 sealed_stops_none false calls at is e = let h : Some (length calls, OfSource NoFinalize) ≡ Some (at, OfSource GateStopped) = rw is at e in false≢true (ap gate_at h)
 
-stops_as : (may_stop : ℕ → Type 0) (calls : List Call) (end : Ending) (at : ℕ) → StopsAs may_stop calls end → fault_of_end end calls ≡ Some (at, OfSource GateStopped) → may_stop (line_behind at)
+stops_as : (may_answer : ℕ → Bool → Type 0) (calls : List Call) (end : Ending) (at : ℕ) → StopsAs may_answer calls end → fault_of_end end calls ≡ Some (at, OfSource GateStopped) → may_answer (line_behind at) false
 unfolding gate_at place_at
-stops_as may_stop calls Sealed at stops e = absurd (sealed_stops_none (is_ended calls) calls at refl e)
-stops_as may_stop calls (Torn GateStopped) at stops e = let here : length calls ≡ at = ap place_at e in subst (λ (n : ℕ). may_stop (line_behind n)) here stops
-stops_as may_stop calls end at stops e = absurd (false≢true (ap gate_at e))
+stops_as may_answer calls Sealed at stops e = absurd (sealed_stops_none (is_ended calls) calls at refl e)
+stops_as may_answer calls (Torn GateStopped) at stops e = let here : length calls ≡ at = ap place_at e in subst (λ (n : ℕ). may_answer (line_behind n) false) here stops
+stops_as may_answer calls end at stops e = absurd (false≢true (ap gate_at e))
 
-stopped_there : (groups : Groups) (rank : ℕ) (told : Option Trace) (may_stop : ℕ → Type 0) (items : List Item) (at : ℕ) → IsFedOrNotStarted told may_stop items → fault_of_rank groups rank (trace_of_items items) ≡ Some (at, OfSource GateStopped) → may_stop (line_behind at)
+stopped_there : (groups : Groups) (rank : ℕ) (told : Option Trace) (may_answer : ℕ → Bool → Type 0) (items : List Item) (at : ℕ) → IsFedOrNotStarted told may_answer items → fault_of_rank groups rank (trace_of_items items) ≡ Some (at, OfSource GateStopped) → may_answer (line_behind at) false
 unfolding gate_at
-stopped_there groups rank told may_stop items at (inl own) is =
-    stops_as may_stop own.calls own.end at own.stopped
+stopped_there groups rank told may_answer items at (inl own) is =
+    stops_as may_answer own.calls own.end at own.stopped
     (source_fault groups rank [] own.calls own.end at GateStopped (sym (fault_held groups rank own.calls own.end items own.are) ∙ is))
-stopped_there groups rank told may_stop items at (inr none) is =
+stopped_there groups rank told may_answer items at (inr none) is =
     let e : Some (0, OfSource ThreadNotStarted) ≡ Some (at, OfSource GateStopped) = sym (fault_held groups rank [] (Torn ThreadNotStarted) items none) ∙ is in
     absurd (false≢true (ap gate_at e))
 
@@ -277,14 +279,14 @@ unmapped_at f [] k y e = cc
 unmapped_at f (x ∷ xs) zero y e = (x, refl, let same : f x ≡ y = cc in same)
 unmapped_at f (x ∷ xs) (suc k) y e = unmapped_at f xs k y e
 
-module _ {I : Type 0} (left : I → Option (List ℕ)) (may_stop : ℕ → ℕ → Type 0) where
-  pub one_list_a_source : (first : ℕ) (sources : List (Source I)) (items : List (List Item)) → AreFedBy left may_stop first sources items → length items ≡ length sources
+module _ {I : Type 0} (left : I → Option (List ℕ)) (may_answer : ℕ → ℕ → Bool → Type 0) where
+  pub one_list_a_source : (first : ℕ) (sources : List (Source I)) (items : List (List Item)) → AreFedBy left may_answer first sources items → length items ≡ length sources
   one_list_a_source first [] [] fed = refl
   one_list_a_source first [] (x ∷ xs) fed = absurd fed
   one_list_a_source first (s ∷ ss) [] fed = absurd fed
   one_list_a_source first (s ∷ ss) (x ∷ xs) fed = ap suc (one_list_a_source (first + 1) ss xs fed.1)
 
-  fed_at : (first : ℕ) (sources : List (Source I)) (items : List (List Item)) (k : ℕ) (source : Source I) (own : List Item) → AreFedBy left may_stop first sources items → slice_get sources k ≡ Some source → slice_get items k ≡ Some own → IsFedOrNotStarted (coming left source) (may_stop (first + k)) own
+  fed_at : (first : ℕ) (sources : List (Source I)) (items : List (List Item)) (k : ℕ) (source : Source I) (own : List Item) → AreFedBy left may_answer first sources items → slice_get sources k ≡ Some source → slice_get items k ≡ Some own → IsFedOrNotStarted (coming left source) (may_answer (first + k)) own
   fed_at first [] [] k source own fed at there = cc
   fed_at first [] (x ∷ xs) k source own fed at there = absurd fed
   fed_at first (s ∷ ss) [] k source own fed at there = absurd fed
@@ -292,25 +294,25 @@ module _ {I : Type 0} (left : I → Option (List ℕ)) (may_stop : ℕ → ℕ �
       let same : s ≡ source = cc in
       let its : x ≡ own = cc in
       let e : first ≡ first + 0 = omega arith in
-      subst (λ (n : ℕ). IsFedOrNotStarted (coming left source) (may_stop n) own) e
-      (subst (λ (one : Source I). IsFedOrNotStarted (coming left one) (may_stop first) own) same
-      (subst (λ (list : List Item). IsFedOrNotStarted (coming left s) (may_stop first) list) its fed.0))
+      subst (λ (n : ℕ). IsFedOrNotStarted (coming left source) (may_answer n) own) e
+      (subst (λ (one : Source I). IsFedOrNotStarted (coming left one) (may_answer first) own) same
+      (subst (λ (list : List Item). IsFedOrNotStarted (coming left s) (may_answer first) list) its fed.0))
   fed_at first (s ∷ ss) (x ∷ xs) (suc k) source own fed at there =
       let e : first + 1 + k ≡ first + suc k = omega arith in
-      subst (λ (n : ℕ). IsFedOrNotStarted (coming left source) (may_stop n) own) e (fed_at (first + 1) ss xs k source own fed.1 at there)
+      subst (λ (n : ℕ). IsFedOrNotStarted (coming left source) (may_answer n) own) e (fed_at (first + 1) ss xs k source own fed.1 at there)
 
-  pub all_read : (first : ℕ) (sources : List (Source I)) (items : List (List Item)) → AreFedBy left may_stop first sources items → AreRead left may_stop first sources (map trace_of_items items)
+  pub all_read : (first : ℕ) (sources : List (Source I)) (items : List (List Item)) → AreFedBy left may_answer first sources items → AreRead left may_answer first sources (map trace_of_items items)
   all_read first [] [] fed = tt
-  all_read first (s ∷ ss) (x ∷ xs) fed = (read_of_fed left s (may_stop first) x fed.0, all_read (first + 1) ss xs fed.1)
+  all_read first (s ∷ ss) (x ∷ xs) fed = (read_of_fed left s (may_answer first) x fed.0, all_read (first + 1) ss xs fed.1)
   all_read first sources items fed = absurd fed
 
-  one_trace_a_source : (first : ℕ) (sources : List (Source I)) (traces : List Trace) → AreRead left may_stop first sources traces → length traces ≡ length sources
+  one_trace_a_source : (first : ℕ) (sources : List (Source I)) (traces : List Trace) → AreRead left may_answer first sources traces → length traces ≡ length sources
   one_trace_a_source first [] [] read = refl
   one_trace_a_source first [] (t ∷ ts) read = absurd read
   one_trace_a_source first (s ∷ ss) [] read = absurd read
   one_trace_a_source first (s ∷ ss) (t ∷ ts) read = ap suc (one_trace_a_source (first + 1) ss ts read.1)
 
-  read_at : (first : ℕ) (sources : List (Source I)) (traces : List Trace) (k : ℕ) (source : Source I) (trace : Trace) → AreRead left may_stop first sources traces → slice_get sources k ≡ Some source → slice_get traces k ≡ Some trace → IsFedOrNotStarted (coming left source) (may_stop (first + k)) (marked trace.records trace.end)
+  read_at : (first : ℕ) (sources : List (Source I)) (traces : List Trace) (k : ℕ) (source : Source I) (trace : Trace) → AreRead left may_answer first sources traces → slice_get sources k ≡ Some source → slice_get traces k ≡ Some trace → IsFedOrNotStarted (coming left source) (may_answer (first + k)) (marked trace.records trace.end)
   read_at first [] [] k source trace read at there = cc
   read_at first [] (t ∷ ts) k source trace read at there = absurd read
   read_at first (s ∷ ss) [] k source trace read at there = absurd read
@@ -318,12 +320,12 @@ module _ {I : Type 0} (left : I → Option (List ℕ)) (may_stop : ℕ → ℕ �
       let same : s ≡ source = cc in
       let its : t ≡ trace = cc in
       let e : first ≡ first + 0 = omega arith in
-      subst (λ (n : ℕ). IsFedOrNotStarted (coming left source) (may_stop n) (marked trace.records trace.end)) e
-      (subst (λ (one : Source I). IsFedOrNotStarted (coming left one) (may_stop first) (marked trace.records trace.end)) same
-      (subst (λ (one : Trace). IsFedOrNotStarted (coming left s) (may_stop first) (marked one.records one.end)) its (fed_of_read left s (may_stop first) t read.0)))
+      subst (λ (n : ℕ). IsFedOrNotStarted (coming left source) (may_answer n) (marked trace.records trace.end)) e
+      (subst (λ (one : Source I). IsFedOrNotStarted (coming left one) (may_answer first) (marked trace.records trace.end)) same
+      (subst (λ (one : Trace). IsFedOrNotStarted (coming left s) (may_answer first) (marked one.records one.end)) its (fed_of_read left s (may_answer first) t read.0)))
   read_at first (s ∷ ss) (t ∷ ts) (suc k) source trace read at there =
       let e : first + 1 + k ≡ first + suc k = omega arith in
-      subst (λ (n : ℕ). IsFedOrNotStarted (coming left source) (may_stop n) (marked trace.records trace.end)) e (read_at (first + 1) ss ts k source trace read.1 at there)
+      subst (λ (n : ℕ). IsFedOrNotStarted (coming left source) (may_answer n) (marked trace.records trace.end)) e (read_at (first + 1) ss ts k source trace read.1 at there)
 
 -- where there is no refusal, no rank has a fault
 no_faults : (groups : Groups) (first : ℕ) (traces : List Trace) (k : ℕ) (trace : Trace) → refusal_from groups first traces ≡ None → slice_get traces k ≡ Some trace → fault_of_rank groups (first + k) trace ≡ None
@@ -392,32 +394,32 @@ calls_at (t ∷ ts) (suc k) trace at = calls_at ts k trace at
 told_here : {I : Type 0} (left : I → Option (List ℕ)) (sources : List (Source I)) (rank : ℕ) (source : Source I) → slice_get sources rank ≡ Some source → coming left source ≡ told_by left sources rank
 told_here left sources rank source at = sym (ap (option_and_then (coming left)) at)
 
-accepts_at : {I : Type 0} (left : I → Option (List ℕ)) (may_stop : ℕ → ℕ → Type 0) (sources : List (Source I)) (reading : Reading) (groups : Groups) (outcome : Analysed) → IsOutcomeOfFeeds left may_stop sources reading groups outcome → (rank : ℕ) → rank < length sources → AcceptsRank groups rank (told_by left sources rank) (calls_of outcome.recording rank)
-accepts_at left may_stop sources reading groups outcome is rank within =
+accepts_at : {I : Type 0} (left : I → Option (List ℕ)) (may_answer : ℕ → ℕ → Bool → Type 0) (sources : List (Source I)) (reading : Reading) (groups : Groups) (outcome : Analysed) → IsOutcomeOfFeeds left may_answer sources reading groups outcome → (rank : ℕ) → rank < length sources → AcceptsRank groups rank (told_by left sources rank) (calls_of outcome.recording rank)
+accepts_at left may_answer sources reading groups outcome is rank within =
     let source = found_at sources rank within in
-    let items = found_at is.items rank (omega (arith, within, one_list_a_source left may_stop 0 sources is.items is.fed)) in
+    let items = found_at is.items rank (omega (arith, within, one_list_a_source left may_answer 0 sources is.items is.fed)) in
     let trace : slice_get (map trace_of_items is.items) rank ≡ Some (trace_of_items items.0) = mapped_at trace_of_items is.items rank items.0 items.1 in
     let calls : calls_of outcome.recording rank ≡ calls_among items.0 =
     ap (λ (lists : Lists). calls_of lists rank) is.over.recording ∙ calls_at (map trace_of_items is.items) rank (trace_of_items items.0) trace in
     let none : fault_of_rank groups rank (trace_of_items items.0) ≡ None =
     let e : 0 + rank ≡ rank = omega arith in subst (λ (n : ℕ). fault_of_rank groups n (trace_of_items items.0) ≡ None) e (no_faults groups 0 (map trace_of_items is.items) rank (trace_of_items items.0) is.over.no_refusal trace) in
     subst (λ (told : Option Trace). AcceptsRank groups rank told (calls_of outcome.recording rank)) (told_here left sources rank source.0 source.1)
-    (accepts_told groups rank (coming left source.0) (may_stop (0 + rank)) items.0 (calls_of outcome.recording rank) (fed_at left may_stop 0 sources is.items rank source.0 items.0 is.fed source.1 items.1) calls none)
+    (accepts_told groups rank (coming left source.0) (may_answer (0 + rank)) items.0 (calls_of outcome.recording rank) (fed_at left may_answer 0 sources is.items rank source.0 items.0 is.fed source.1 items.1) calls none)
 
-pub accepts_all : {I : Type 0} (left : I → Option (List ℕ)) (may_stop : ℕ → ℕ → Type 0) (sources : List (Source I)) (reading : Reading) (groups : Groups) (outcome : Analysed) → length sources ≡ ranks_of groups → IsOutcomeOfFeeds left may_stop sources reading groups outcome → AcceptsAll groups (told_by left sources) outcome.recording
-accepts_all left may_stop sources reading groups outcome one is =
+pub accepts_all : {I : Type 0} (left : I → Option (List ℕ)) (may_answer : ℕ → ℕ → Bool → Type 0) (sources : List (Source I)) (reading : Reading) (groups : Groups) (outcome : Analysed) → length sources ≡ ranks_of groups → IsOutcomeOfFeeds left may_answer sources reading groups outcome → AcceptsAll groups (told_by left sources) outcome.recording
+accepts_all left may_answer sources reading groups outcome one is =
     let count : length outcome.recording ≡ length sources =
-    ap (λ (lists : Lists). length lists) is.over.recording ∙ length-map (map trace_of_items is.items) (λ (t : Trace). t.records) ∙ length-map is.items trace_of_items ∙ one_list_a_source left may_stop 0 sources is.items is.fed in record {
+    ap (λ (lists : Lists). length lists) is.over.recording ∙ length-map (map trace_of_items is.items) (λ (t : Trace). t.records) ∙ length-map is.items trace_of_items ∙ one_list_a_source left may_answer 0 sources is.items is.fed in record {
       one_a_rank = count ∙ one;
       closed = subst IsClosed (sym is.over.recording) is.over.closed;
-      accepted = λ rank within. accepts_at left may_stop sources reading groups outcome is rank (omega (arith, count, within));
+      accepted = λ rank within. accepts_at left may_answer sources reading groups outcome is rank (omega (arith, count, within));
     }
 
-pub lowest_refusal : {I : Type 0} (left : I → Option (List ℕ)) (may_stop : ℕ → ℕ → Type 0) (sources : List (Source I)) (groups : Groups) (refusal : Refusal) → length sources ≡ ranks_of groups → IsRefusalOfFeeds left may_stop sources groups refusal → IsLowestRefusal groups (told_by left sources) refusal
-lowest_refusal left may_stop sources groups refusal one is =
+pub lowest_refusal : {I : Type 0} (left : I → Option (List ℕ)) (may_answer : ℕ → ℕ → Bool → Type 0) (sources : List (Source I)) (groups : Groups) (refusal : Refusal) → length sources ≡ ranks_of groups → IsRefusalOfFeeds left may_answer sources groups refusal → IsLowestRefusal groups (told_by left sources) refusal
+lowest_refusal left may_answer sources groups refusal one is =
     let at = refusal_place groups 0 is.traces refusal is.over in
     let rank : at.place ≡ refusal.rank = omega (arith, at.rank) in
-    let count = one_trace_a_source left may_stop 0 sources is.traces is.read in
+    let count = one_trace_a_source left may_answer 0 sources is.traces is.read in
     let inside : at.place < length sources = omega (arith, count, slice_get_within is.traces at.place at.trace at.there) in
     let source = found_at sources at.place inside in record {
       is_rank = omega (arith, one, inside, rank);
@@ -427,24 +429,33 @@ lowest_refusal left may_stop sources groups refusal one is =
           let none : fault_of_rank groups k there.0 ≡ None =
           subst (λ (n : ℕ). fault_of_rank groups n there.0 ≡ None) e (at.lower k there.0 (omega (arith, below, rank)) there.1) in
           subst (λ (told : Option Trace). HasNoFault groups k told) (told_here left sources k here.0 here.1)
-          (no_fault_told groups k (coming left here.0) (may_stop (0 + k)) (marked there.0.records there.0.end) (read_at left may_stop 0 sources is.traces k here.0 there.0 is.read here.1 there.1) (read_fault groups k there.0 ∙ none));
+          (no_fault_told groups k (coming left here.0) (may_answer (0 + k)) (marked there.0.records there.0.end) (read_at left may_answer 0 sources is.traces k here.0 there.0 is.read here.1 there.1) (read_fault groups k there.0 ∙ none));
       its_own = subst (λ (n : ℕ). IfSome (told_by left sources n) (λ trace. IsRefusalOf groups refusal.rank trace refusal)) rank
           (subst (λ (told : Option Trace). IfSome told (λ trace. IsRefusalOf groups refusal.rank trace refusal)) (told_here left sources at.place source.0 source.1)
-          (own_told groups (coming left source.0) (may_stop (0 + at.place)) (marked at.trace.records at.trace.end) refusal
-          (read_at left may_stop 0 sources is.traces at.place source.0 at.trace is.read source.1 at.there) (read_fault groups refusal.rank at.trace ∙ at.fault)));
+          (own_told groups (coming left source.0) (may_answer (0 + at.place)) (marked at.trace.records at.trace.end) refusal
+          (read_at left may_answer 0 sources is.traces at.place source.0 at.trace is.read source.1 at.there) (read_fault groups refusal.rank at.trace ∙ at.fault)));
     }
 
+-- where there is no refusal, the gate was asked of each line of each source
+pub accepts_feeds : {I A E : Type 0} (left : I → Option (List ℕ)) (may_answer : ℕ → ℕ → Bool → Type 0) (sources : List (Source I)) (reading : Reading) (groups : Groups) (outcome : Analysed) (answer : Result A E) → IsOutcomeOfFeeds left may_answer sources reading groups outcome → OnOk answer (AcceptsFeeds left may_answer sources groups)
+accepts_feeds left may_answer sources reading groups outcome (Ok verdict) is = record {
+  traces = map trace_of_items is.items;
+  read = all_read left may_answer 0 sources is.items is.fed;
+  over = is.over.no_refusal;
+}
+accepts_feeds left may_answer sources reading groups outcome (Err fault) is = tt
+
 -- where the gate stopped a rank, it might do so there
-stops_there : {I : Type 0} (left : I → Option (List ℕ)) (may_stop : ℕ → ℕ → Type 0) (sources : List (Source I)) (groups : Groups) (refusal : Refusal) → IsRefusalOfFeeds left may_stop sources groups refusal → refusal.fault ≡ OfSource GateStopped → may_stop refusal.rank (line_behind refusal.call)
-stops_there left may_stop sources groups refusal is stopped =
+stops_there : {I : Type 0} (left : I → Option (List ℕ)) (may_answer : ℕ → ℕ → Bool → Type 0) (sources : List (Source I)) (groups : Groups) (refusal : Refusal) → IsRefusalOfFeeds left may_answer sources groups refusal → refusal.fault ≡ OfSource GateStopped → may_answer refusal.rank (line_behind refusal.call) false
+stops_there left may_answer sources groups refusal is stopped =
     let at = refusal_place groups 0 is.traces refusal is.over in
-    let count = one_trace_a_source left may_stop 0 sources is.traces is.read in
+    let count = one_trace_a_source left may_answer 0 sources is.traces is.read in
     let source = found_at sources at.place (omega (arith, count, slice_get_within is.traces at.place at.trace at.there)) in
     let fault : fault_of_rank groups refusal.rank (trace_of_items (marked at.trace.records at.trace.end)) ≡ Some (refusal.call, OfSource GateStopped) =
     read_fault groups refusal.rank at.trace ∙ at.fault ∙ ap (λ (f : RankFault). Some (refusal.call, f)) stopped in
-    subst (λ (n : ℕ). may_stop n (line_behind refusal.call)) (sym at.rank)
-    (stopped_there groups refusal.rank (coming left source.0) (may_stop (0 + at.place)) (marked at.trace.records at.trace.end) refusal.call
-    (read_at left may_stop 0 sources is.traces at.place source.0 at.trace is.read source.1 at.there) fault)
+    subst (λ (n : ℕ). may_answer n (line_behind refusal.call) false) (sym at.rank)
+    (stopped_there groups refusal.rank (coming left source.0) (may_answer (0 + at.place)) (marked at.trace.records at.trace.end) refusal.call
+    (read_at left may_answer 0 sources is.traces at.place source.0 at.trace is.read source.1 at.there) fault)
 
 -- What the joined threads hand to the close.
 
@@ -452,8 +463,8 @@ if_received : (P : Receipt → Type 0) (answer : Result Receipt Unsealed) → If
 if_received P (Ok receipt) is = is
 if_received P (Err fault) is = tt
 
-module _ {I : Type 0} (left : I → Option (List ℕ)) (may_stop : ℕ → ℕ → Type 0) where
-  pub receipts_of_feeds : (sources : List (Source I)) (feeds : List Feed) (fed : List FeedResult) → AreFedFrom left may_stop sources feeds fed → AreReceiptsOf (map feed_ring feeds) (map receipt_of fed)
+module _ {I : Type 0} (left : I → Option (List ℕ)) (may_answer : ℕ → ℕ → Bool → Type 0) where
+  pub receipts_of_feeds : (sources : List (Source I)) (feeds : List Feed) (fed : List FeedResult) → AreFedFrom left may_answer sources feeds fed → AreReceiptsOf (map feed_ring feeds) (map receipt_of fed)
   receipts_of_feeds [] [] [] are = tt
   receipts_of_feeds (s ∷ ss) (f ∷ fs) (x ∷ xs) are = (if_received (λ receipt. receipt_ring receipt ≡ feed_ring f) x.receipt are.0.name, receipts_of_feeds ss fs xs are.1)
   receipts_of_feeds sources feeds fed are = absurd are
@@ -470,23 +481,23 @@ held_traces [] = refl
 held_traces (None ∷ receipts) = held_traces receipts
 held_traces (Some receipt ∷ receipts) = ap (λ (ts : List Trace). trace_of_items (sent_whole receipt) ∷ ts) (held_traces receipts)
 
-one_more_fed : {I : Type 0} (left : I → Option (List ℕ)) (may_stop : ℕ → ℕ → Type 0) (first number : ℕ) (source : Source I) (sources : List (Source I)) (answer : Result Receipt Unsealed) (receipts : List (Option Receipt)) → IfOk answer (λ receipt. IsFedOrNotStarted (coming left source) (may_stop number) (sent_whole receipt)) → number ≡ first → missing_from first (receipt_in answer ∷ receipts) ≡ None → (missing_from (first + 1) receipts ≡ None → AreFedBy left may_stop (first + 1) sources (items_held receipts)) → AreFedBy left may_stop first (source ∷ sources) (items_held (receipt_in answer ∷ receipts))
+one_more_fed : {I : Type 0} (left : I → Option (List ℕ)) (may_answer : ℕ → ℕ → Bool → Type 0) (first number : ℕ) (source : Source I) (sources : List (Source I)) (answer : Result Receipt Unsealed) (receipts : List (Option Receipt)) → IfOk answer (λ receipt. IsFedOrNotStarted (coming left source) (may_answer number) (sent_whole receipt)) → number ≡ first → missing_from first (receipt_in answer ∷ receipts) ≡ None → (missing_from (first + 1) receipts ≡ None → AreFedBy left may_answer (first + 1) sources (items_held receipts)) → AreFedBy left may_answer first (source ∷ sources) (items_held (receipt_in answer ∷ receipts))
 unfolding items_held
-one_more_fed left may_stop first number source sources (Err fault) receipts own is present behind = absurd (none-some _ (sym present))
-one_more_fed left may_stop first number source sources (Ok receipt) receipts own is present behind = (
-  subst (λ (n : ℕ). IsFedOrNotStarted (coming left source) (may_stop n) (sent_whole receipt)) is own,
+one_more_fed left may_answer first number source sources (Err fault) receipts own is present behind = absurd (none-some _ (sym present))
+one_more_fed left may_answer first number source sources (Ok receipt) receipts own is present behind = (
+  subst (λ (n : ℕ). IsFedOrNotStarted (coming left source) (may_answer n) (sent_whole receipt)) is own,
   behind present,
 )
 
-pub fed_by_threads : {I : Type 0} (left : I → Option (List ℕ)) (may_stop : ℕ → ℕ → Type 0) (first : ℕ) (sources : List (Source I)) (feeds : List Feed) (fed : List FeedResult) → AreFedFrom left may_stop sources feeds fed → map rank_fed feeds ≡ range_with_len first (length feeds) → missing_from first (map receipt_of fed) ≡ None → AreFedBy left may_stop first sources (items_held (map receipt_of fed))
+pub fed_by_threads : {I : Type 0} (left : I → Option (List ℕ)) (may_answer : ℕ → ℕ → Bool → Type 0) (first : ℕ) (sources : List (Source I)) (feeds : List Feed) (fed : List FeedResult) → AreFedFrom left may_answer sources feeds fed → map rank_fed feeds ≡ range_with_len first (length feeds) → missing_from first (map receipt_of fed) ≡ None → AreFedBy left may_answer first sources (items_held (map receipt_of fed))
 unfolding items_held
-fed_by_threads left may_stop first [] [] [] are ranks present = tt
-fed_by_threads left may_stop first (s ∷ ss) (f ∷ fs) (x ∷ xs) are ranks present =
+fed_by_threads left may_answer first [] [] [] are ranks present = tt
+fed_by_threads left may_answer first (s ∷ ss) (f ∷ fs) (x ∷ xs) are ranks present =
     let number : rank_fed f ≡ first = cc in
     let others : map rank_fed fs ≡ range_with_len (first + 1) (length fs) = cc in
-    one_more_fed left may_stop first (rank_fed f) s ss x.receipt (map receipt_of xs) are.0.items number present
-    (λ behind. fed_by_threads left may_stop (first + 1) ss fs xs are.1 others behind)
-fed_by_threads left may_stop first sources feeds fed are ranks present = absurd are
+    one_more_fed left may_answer first (rank_fed f) s ss x.receipt (map receipt_of xs) are.0.items number present
+    (λ behind. fed_by_threads left may_answer (first + 1) ss fs xs are.1 others behind)
+fed_by_threads left may_answer first sources feeds fed are ranks present = absurd are
 
 -- the rank without a receipt is one of the ranks
 missing_below : (first : ℕ) (receipts : List (Option Receipt)) (rank : ℕ) → missing_from first receipts ≡ Some rank → rank < first + length receipts
@@ -508,18 +519,18 @@ feeds_of groups feeds ranks = sym (length-map feeds rank_fed) ∙ ap (λ (ns : L
 pub feeds_count : {I : Type 0} (groups : Groups) (feeds : List Feed) (sources : List (Source I)) → length sources ≡ ranks_of groups → map rank_fed feeds ≡ range_with_len 0 (ranks_of groups) → length feeds ≡ length sources
 feeds_count groups feeds sources one ranks = feeds_of groups feeds ranks ∙ sym one
 
-module _ {I : Type 0} (left : I → Option (List ℕ)) (may_stop : ℕ → ℕ → Type 0) (sources : List (Source I)) (feeds : List Feed) (fed : List FeedResult) (collector now : Collector) (receipts : List (Option Receipt)) (reading : Reading) (groups : Groups) where
-  pub close_receipts : AreFedFrom left may_stop sources feeds fed → rings collector ≡ map feed_ring feeds → IsSameSession collector now → receipts ≡ map receipt_of fed → AreReceiptsOf (rings now) receipts
+module _ {I : Type 0} (left : I → Option (List ℕ)) (may_answer : ℕ → ℕ → Bool → Type 0) (sources : List (Source I)) (feeds : List Feed) (fed : List FeedResult) (collector now : Collector) (receipts : List (Option Receipt)) (reading : Reading) (groups : Groups) where
+  pub close_receipts : AreFedFrom left may_answer sources feeds fed → rings collector ≡ map feed_ring feeds → IsSameSession collector now → receipts ≡ map receipt_of fed → AreReceiptsOf (rings now) receipts
   close_receipts are rings_are same is =
-      rw is (subst (λ (names : List FeedName). AreReceiptsOf names (map receipt_of fed)) (sym (same.names ∙ rings_are)) (receipts_of_feeds left may_stop sources feeds fed are))
+      rw is (subst (λ (names : List FeedName). AreReceiptsOf names (map receipt_of fed)) (sym (same.names ∙ rings_are)) (receipts_of_feeds left may_answer sources feeds fed are))
 
-  all_fed : AreFedFrom left may_stop sources feeds fed → map rank_fed feeds ≡ range_with_len 0 (ranks_of groups) → receipts ≡ map receipt_of fed → first_missing receipts ≡ None → AreFedBy left may_stop 0 sources (items_held receipts)
+  all_fed : AreFedFrom left may_answer sources feeds fed → map rank_fed feeds ≡ range_with_len 0 (ranks_of groups) → receipts ≡ map receipt_of fed → first_missing receipts ≡ None → AreFedBy left may_answer 0 sources (items_held receipts)
   all_fed are ranks is present =
       let whole : map rank_fed feeds ≡ range_with_len 0 (length feeds) = ranks ∙ ap (range_with_len 0) (sym (feeds_of groups feeds ranks)) in
       let every : first_missing (map receipt_of fed) ≡ None = ap first_missing (sym is) ∙ present in
-      rw is (fed_by_threads left may_stop 0 sources feeds fed are whole every)
+      rw is (fed_by_threads left may_answer 0 sources feeds fed are whole every)
 
-  outcome_of_feeds : (outcome : Analysed) → AreFedFrom left may_stop sources feeds fed → map rank_fed feeds ≡ range_with_len 0 (ranks_of groups) → kept collector ≡ nothing_kept reading groups → IsSameSession collector now → receipts ≡ map receipt_of fed → (first_missing receipts ≡ None) × IsOutcomeOver (kept now).reading (kept now).groups (traces_held receipts) outcome → IsOutcomeOfFeeds left may_stop sources reading groups outcome
+  outcome_of_feeds : (outcome : Analysed) → AreFedFrom left may_answer sources feeds fed → map rank_fed feeds ≡ range_with_len 0 (ranks_of groups) → kept collector ≡ nothing_kept reading groups → IsSameSession collector now → receipts ≡ map receipt_of fed → (first_missing receipts ≡ None) × IsOutcomeOver (kept now).reading (kept now).groups (traces_held receipts) outcome → IsOutcomeOfFeeds left may_answer sources reading groups outcome
   outcome_of_feeds outcome are ranks first same is answer =
       let head : (kept now).groups ≡ groups = same.groups ∙ ap (λ (k : Kept). k.groups) first in
       let alike : (kept now).reading ≡ reading = same.reading ∙ ap (λ (k : Kept). k.reading) first in
@@ -529,35 +540,35 @@ module _ {I : Type 0} (left : I → Option (List ℕ)) (may_stop : ℕ → ℕ �
         over = subst (λ (ts : List Trace). IsOutcomeOver reading groups ts outcome) (held_traces receipts) (subst (λ (gs : Groups). IsOutcomeOver reading gs (traces_held receipts) outcome) head now_over);
       }
 
-  refusal_of_feeds : (refusal : Refusal) → AreFedFrom left may_stop sources feeds fed → map rank_fed feeds ≡ range_with_len 0 (ranks_of groups) → kept collector ≡ nothing_kept reading groups → IsSameSession collector now → receipts ≡ map receipt_of fed → (first_missing receipts ≡ None) × (refusal_of (kept now).groups (traces_held receipts) ≡ Some refusal) → IsRefusalOfFeeds left may_stop sources groups refusal
+  refusal_of_feeds : (refusal : Refusal) → AreFedFrom left may_answer sources feeds fed → map rank_fed feeds ≡ range_with_len 0 (ranks_of groups) → kept collector ≡ nothing_kept reading groups → IsSameSession collector now → receipts ≡ map receipt_of fed → (first_missing receipts ≡ None) × (refusal_of (kept now).groups (traces_held receipts) ≡ Some refusal) → IsRefusalOfFeeds left may_answer sources groups refusal
   refusal_of_feeds refusal are ranks first same is answer =
       let head : (kept now).groups ≡ groups = same.groups ∙ ap (λ (k : Kept). k.groups) first in record {
         traces = map trace_of_items (items_held receipts);
-        read = all_read left may_stop 0 sources (items_held receipts) (all_fed are ranks is answer.0);
+        read = all_read left may_answer 0 sources (items_held receipts) (all_fed are ranks is answer.0);
         over = ap (refusal_of groups) (sym (held_traces receipts)) ∙ ap (λ (gs : Groups). refusal_of gs (traces_held receipts)) (sym head) ∙ answer.1;
       }
 
-  fed_count : (ss : List (Source I)) (fs : List Feed) (xs : List FeedResult) → AreFedFrom left may_stop ss fs xs → length xs ≡ length ss
+  fed_count : (ss : List (Source I)) (fs : List Feed) (xs : List FeedResult) → AreFedFrom left may_answer ss fs xs → length xs ≡ length ss
   fed_count [] [] [] so = refl
   fed_count (s ∷ ss) (f ∷ fs) (x ∷ xs) so = ap suc (fed_count ss fs xs so.1)
   fed_count ss fs xs so = absurd so
 
-  unproved_rank : (rank : ℕ) → AreFedFrom left may_stop sources feeds fed → length sources ≡ ranks_of groups → receipts ≡ map receipt_of fed → first_missing receipts ≡ Some rank → rank < ranks_of groups
+  unproved_rank : (rank : ℕ) → AreFedFrom left may_answer sources feeds fed → length sources ≡ ranks_of groups → receipts ≡ map receipt_of fed → first_missing receipts ≡ Some rank → rank < ranks_of groups
   unproved_rank rank are one is missing =
       let count : length receipts ≡ ranks_of groups = ap (λ (rs : List (Option Receipt)). length rs) is ∙ length-map fed receipt_of ∙ fed_count sources feeds fed are ∙ one in
       omega (arith, count, missing_rank receipts rank missing)
 
-  pub closes_well : (answer : Result Analysed CloseFault) → AreFedFrom left may_stop sources feeds fed → map rank_fed feeds ≡ range_with_len 0 (ranks_of groups) → kept collector ≡ nothing_kept reading groups → IsSameSession collector now → receipts ≡ map receipt_of fed → Closes (kept now).reading (kept now).groups receipts answer → IfOk answer (IsOutcomeOfFeeds left may_stop sources reading groups)
+  pub closes_well : (answer : Result Analysed CloseFault) → AreFedFrom left may_answer sources feeds fed → map rank_fed feeds ≡ range_with_len 0 (ranks_of groups) → kept collector ≡ nothing_kept reading groups → IsSameSession collector now → receipts ≡ map receipt_of fed → Closes (kept now).reading (kept now).groups receipts answer → IfOk answer (IsOutcomeOfFeeds left may_answer sources reading groups)
   closes_well (Ok outcome) are ranks first same is answer = outcome_of_feeds outcome are ranks first same is answer
   closes_well (Err fault) are ranks first same is answer = tt
 
-  pub closes_refusing : (answer : Result Analysed CloseFault) → AreFedFrom left may_stop sources feeds fed → length sources ≡ ranks_of groups → map rank_fed feeds ≡ range_with_len 0 (ranks_of groups) → kept collector ≡ nothing_kept reading groups → IsSameSession collector now → receipts ≡ map receipt_of fed → Closes (kept now).reading (kept now).groups receipts answer → IfErr answer (λ fault. RefusesFeeds left may_stop sources groups (of_close fault))
+  pub closes_refusing : (answer : Result Analysed CloseFault) → AreFedFrom left may_answer sources feeds fed → length sources ≡ ranks_of groups → map rank_fed feeds ≡ range_with_len 0 (ranks_of groups) → kept collector ≡ nothing_kept reading groups → IsSameSession collector now → receipts ≡ map receipt_of fed → Closes (kept now).reading (kept now).groups receipts answer → IfErr answer (λ fault. RefusesFeeds left may_answer sources groups (of_close fault))
   closes_refusing (Ok outcome) are one ranks first same is answer = tt
   closes_refusing (Err Memory) are one ranks first same is answer = tt
   closes_refusing (Err (Unproved rank)) are one ranks first same is answer = unproved_rank rank are one is answer
   closes_refusing (Err (Refused refusal)) are one ranks first same is answer = refusal_of_feeds refusal are ranks first same is answer
 
 -- and no rank is stopped where it may not be
-pub refusing_stops : {I : Type 0} (left : I → Option (List ℕ)) (may_stop : ℕ → ℕ → Type 0) (sources : List (Source I)) (groups : Groups) (answer : Result Analysed CloseFault) → IfErr answer (λ fault. RefusesFeeds left may_stop sources groups (of_close fault)) → IfErr answer (λ fault. StopsWhereAllowed may_stop (of_close fault))
-refusing_stops left may_stop sources groups (Err (Refused refusal)) refuses = stops_there left may_stop sources groups refusal refuses
-refusing_stops left may_stop sources groups answer refuses = tt
+pub refusing_stops : {I : Type 0} (left : I → Option (List ℕ)) (may_answer : ℕ → ℕ → Bool → Type 0) (sources : List (Source I)) (groups : Groups) (answer : Result Analysed CloseFault) → IfErr answer (λ fault. RefusesFeeds left may_answer sources groups (of_close fault)) → IfErr answer (λ fault. StopsWhereAllowed may_answer (of_close fault))
+refusing_stops left may_answer sources groups (Err (Refused refusal)) refuses = stops_there left may_answer sources groups refusal refuses
+refusing_stops left may_answer sources groups answer refuses = tt

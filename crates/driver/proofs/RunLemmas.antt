@@ -1,6 +1,6 @@
 -- What the ranks' answers say of a run over the traces that their sources tell.
 use Rattle.moves.specs.declared.reading.Reading.{Reading}
-use Rattle.std.proofs.Common.{◌≡◌, ◌↔◌, ℕ, ◌+◌, ◌<◌, List, [], ◌∷◌, length, map, sym, ap, ◌∙◌, refl, arith, zero, suc, Option, Some, None, IfSome, slice_get, subst, option_and_then, Result, Ok, Err, IfOk, IfErr, OnOk}
+use Rattle.std.proofs.Common.{◌≡◌, ◌↔◌, ℕ, Bool, ◌+◌, ◌<◌, List, [], ◌∷◌, length, map, sym, ap, ◌∙◌, refl, arith, zero, suc, Option, Some, None, IfSome, slice_get, subst, option_and_then, Result, Ok, Err, IfOk, IfErr, OnOk}
 use Rattle.mpicall.specs.Trace.{Trace}
 use Rattle.mpicall.specs.Source.{coming}
 use Rattle.mpicall.specs.declared.call.Call.{Call}
@@ -209,25 +209,25 @@ report_refuses written failures old new format reading known lists groups traces
 report_refuses written failures old new format reading known lists groups traces fault leaves = tt
 
 -- a report that fails is no refusal of the ranks' feeds
-pub report_feeds : {O I : Type 0} (written : O → Option (List ℕ)) (failures : O → ℕ) (old new : O) (format : Format) (reading : Reading) (known : Groups) (lists : Lists) (left : I → Option (List ℕ)) (may_stop : ℕ → ℕ → Type 0) (sources : List (Source I)) (groups : Groups) (answer : Result Verdict RunFault) → IfErr answer (NotReported written failures old new format reading known lists) → IfErr answer (RefusesFeeds left may_stop sources groups)
-report_feeds written failures old new format reading known lists left may_stop sources groups (Err (Unproved rank)) leaves = absurd leaves.3
-report_feeds written failures old new format reading known lists left may_stop sources groups (Err (Refused refusal)) leaves = absurd leaves.3
-report_feeds written failures old new format reading known lists left may_stop sources groups answer leaves = tt
+pub report_feeds : {O I : Type 0} (written : O → Option (List ℕ)) (failures : O → ℕ) (old new : O) (format : Format) (reading : Reading) (known : Groups) (lists : Lists) (left : I → Option (List ℕ)) (may_answer : ℕ → ℕ → Bool → Type 0) (sources : List (Source I)) (groups : Groups) (answer : Result Verdict RunFault) → IfErr answer (NotReported written failures old new format reading known lists) → IfErr answer (RefusesFeeds left may_answer sources groups)
+report_feeds written failures old new format reading known lists left may_answer sources groups (Err (Unproved rank)) leaves = absurd leaves.3
+report_feeds written failures old new format reading known lists left may_answer sources groups (Err (Refused refusal)) leaves = absurd leaves.3
+report_feeds written failures old new format reading known lists left may_answer sources groups answer leaves = tt
 
-pub report_stops : {O : Type 0} (written : O → Option (List ℕ)) (failures : O → ℕ) (old new : O) (format : Format) (reading : Reading) (known : Groups) (lists : Lists) (may_stop : ℕ → ℕ → Type 0) (answer : Result Verdict RunFault) → IfErr answer (NotReported written failures old new format reading known lists) → IfErr answer (StopsWhereAllowed may_stop)
-report_stops written failures old new format reading known lists may_stop (Err (Unproved rank)) leaves = absurd leaves.3
-report_stops written failures old new format reading known lists may_stop (Err (Refused refusal)) leaves = absurd leaves.3
-report_stops written failures old new format reading known lists may_stop answer leaves = tt
+pub report_stops : {O : Type 0} (written : O → Option (List ℕ)) (failures : O → ℕ) (old new : O) (format : Format) (reading : Reading) (known : Groups) (lists : Lists) (may_answer : ℕ → ℕ → Bool → Type 0) (answer : Result Verdict RunFault) → IfErr answer (NotReported written failures old new format reading known lists) → IfErr answer (StopsWhereAllowed may_answer)
+report_stops written failures old new format reading known lists may_answer (Err (Unproved rank)) leaves = absurd leaves.3
+report_stops written failures old new format reading known lists may_answer (Err (Refused refusal)) leaves = absurd leaves.3
+report_stops written failures old new format reading known lists may_answer answer leaves = tt
 
 -- a refusal of the ranks' feeds is one over the traces that their sources tell
-feeds_refuse : {I : Type 0} (left : I → Option (List ℕ)) (may_stop : ℕ → ℕ → Type 0) (groups : Groups) (sources : List (Source I)) (fault : CloseFault) → length sources ≡ ranks_of groups → RefusesFeeds left may_stop sources groups (of_close fault) → RefusesRun groups (told_by left sources) (of_close fault)
-feeds_refuse left may_stop groups sources close.Memory one refuses = tt
-feeds_refuse left may_stop groups sources (close.Unproved rank) one refuses = tt
-feeds_refuse left may_stop groups sources (close.Refused refusal) one refuses = lowest_refusal left may_stop sources groups refusal one refuses
+feeds_refuse : {I : Type 0} (left : I → Option (List ℕ)) (may_answer : ℕ → ℕ → Bool → Type 0) (groups : Groups) (sources : List (Source I)) (fault : CloseFault) → length sources ≡ ranks_of groups → RefusesFeeds left may_answer sources groups (of_close fault) → RefusesRun groups (told_by left sources) (of_close fault)
+feeds_refuse left may_answer groups sources close.Memory one refuses = tt
+feeds_refuse left may_answer groups sources (close.Unproved rank) one refuses = tt
+feeds_refuse left may_answer groups sources (close.Refused refusal) one refuses = lowest_refusal left may_answer sources groups refusal one refuses
 
-pub close_refuses : {I : Type 0} (left : I → Option (List ℕ)) (may_stop : ℕ → ℕ → Type 0) (groups : Groups) (sources : List (Source I)) (fault : CloseFault) (told : RunFault) → told ≡ of_close fault → length sources ≡ ranks_of groups → RefusesFeeds left may_stop sources groups (of_close fault) → (traces : List Trace) → Tells left sources traces → RefusesOver groups traces told
-close_refuses left may_stop groups sources fault told is one refuses traces tells =
-    rw is (refused_over left groups sources (of_close fault) traces one (feeds_refuse left may_stop groups sources fault one refuses) tells)
+pub close_refuses : {I : Type 0} (left : I → Option (List ℕ)) (may_answer : ℕ → ℕ → Bool → Type 0) (groups : Groups) (sources : List (Source I)) (fault : CloseFault) (told : RunFault) → told ≡ of_close fault → length sources ≡ ranks_of groups → RefusesFeeds left may_answer sources groups (of_close fault) → (traces : List Trace) → Tells left sources traces → RefusesOver groups traces told
+close_refuses left may_answer groups sources fault told is one refuses traces tells =
+    rw is (refused_over left groups sources (of_close fault) traces one (feeds_refuse left may_answer groups sources fault one refuses) tells)
 
 close_leaves : {I O : Type 0} (left : I → Option (List ℕ)) (written : O → Option (List ℕ)) (failures : O → ℕ) (reading : Reading) (groups : Groups) (sources : List (Source I)) (format : Format) (out : O) (fault : CloseFault) → LeavesOutput left written failures sources reading groups format out out (of_close fault)
 close_leaves left written failures reading groups sources format out close.Memory = refl

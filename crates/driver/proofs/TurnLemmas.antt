@@ -59,19 +59,19 @@ never_sealed items fault is = let e : Some (Torn fault) ≡ Some Sealed = sym (e
 
 -- One record more of a source, or its end.
 
-module _ {I : Type 0} (left : I → Option (List ℕ)) (may_stop : ℕ → ℕ → Type 0) (rank : ℕ) (old new : AtTurn I) (before : Kept) where
-  came_going : (source : Source I) (items : List Item) → old.over ≡ false → CameOf left (may_stop rank) source old items old.over → IsGoing left source old items
-  came_going source items was came = subst (λ (over : Bool). CameOf left (may_stop rank) source old items over) was came
+module _ {I : Type 0} (left : I → Option (List ℕ)) (may_answer : ℕ → ℕ → Bool → Type 0) (rank : ℕ) (old new : AtTurn I) (before : Kept) where
+  came_going : (source : Source I) (items : List Item) → old.over ≡ false → CameOf left (may_answer rank) source old items old.over → IsGoing left (may_answer rank) source old items
+  came_going source items was came = subst (λ (over : Bool). CameOf left (may_answer rank) source old items over) was came
 
-  goes_on : (source : Source I) (items : List Item) → new.over ≡ false → IsGoing left source new items → CameOf left (may_stop rank) source new items new.over
-  goes_on source items is going = subst (λ (over : Bool). CameOf left (may_stop rank) source new items over) (sym is) going
+  goes_on : (source : Source I) (items : List Item) → new.over ≡ false → IsGoing left (may_answer rank) source new items → CameOf left (may_answer rank) source new items new.over
+  goes_on source items is going = subst (λ (over : Bool). CameOf left (may_answer rank) source new items over) (sym is) going
 
-  comes_whole : (source : Source I) (items : List Item) → new.over ≡ true → IsWhole (coming left source) (may_stop rank) items → CameOf left (may_stop rank) source new items new.over
-  comes_whole source items is whole = subst (λ (over : Bool). CameOf left (may_stop rank) source new items over) (sym is) whole
+  comes_whole : (source : Source I) (items : List Item) → new.over ≡ true → IsWhole (coming left source) (may_answer rank) items → CameOf left (may_answer rank) source new items new.over
+  comes_whole source items is whole = subst (λ (over : Bool). CameOf left (may_answer rank) source new items over) (sym is) whole
 
   pub later_record : (after : Kept) (call : Call) (answer : Stepped) → rank < length before.recording → ended new.source ≡ None → old.over ≡ false → new.over ≡ false → new.done ≡ ends_list call → EntersRecord rank call before answer after →
-      ((start : Source I) (items : List Item) → end_the_list items ≡ old.done → IsReading left start old.source items old.line → IsReading left start new.source (items ++ Entry call ∷ []) new.line) →
-      IsLater left may_stop rank old before new after
+      ((start : Source I) (items : List Item) → end_the_list items ≡ old.done → IsReading left (may_answer rank) start old.source items old.line → IsReading left (may_answer rank) start new.source (items ++ Entry call ∷ []) new.line) →
+      IsLater left may_answer rank old before new after
   later_record after call answer within fresh was is done enters reads =
       let leaves = record_leaves rank before after call answer enters in record {
         leaves = leaves;
@@ -85,8 +85,8 @@ module _ {I : Type 0} (left : I → Option (List ℕ)) (may_stop : ℕ → ℕ �
       }
 
   pub later_sealed : (end : Ending) → end ≡ Sealed → old.over ≡ false → new.over ≡ true → old.done ≡ true →
-      ((start : Source I) (items : List Item) → end_the_list items ≡ old.done → IsReading left start old.source items old.line → IsFed (coming left start) (may_stop rank) (items ++ Mark end ∷ [])) →
-      IsLater left may_stop rank old before new before
+      ((start : Source I) (items : List Item) → end_the_list items ≡ old.done → IsReading left (may_answer rank) start old.source items old.line → IsFed (coming left start) (may_answer rank) (items ++ Mark end ∷ [])) →
+      IsLater left may_answer rank old before new before
   later_sealed end is_end was is done ends = record {
     leaves = nothing_new rank before before refl;
     ready = λ ready going. let e : true ≡ false = sym is ∙ going in absurd cc;
@@ -94,7 +94,7 @@ module _ {I : Type 0} (left : I → Option (List ℕ)) (may_stop : ℕ → ℕ �
       items = of.items ++ Mark Sealed ∷ [];
       places = of.places;
       came = comes_whole source (of.items ++ Mark Sealed ∷ []) is (record {
-        fed = subst (λ (e : Ending). IsFed (coming left source) (may_stop rank) (of.items ++ Mark e ∷ [])) is_end (ends source of.items going.done going.read);
+        fed = subst (λ (e : Ending). IsFed (coming left source) (may_answer rank) (of.items ++ Mark e ∷ [])) is_end (ends source of.items going.done going.read);
         sealed = λ e. sealed_calls _ _ of.items going.read.told (going.done ∙ done);
       });
       kept_so = λ calm. mark_sealed before.groups rank of.items _ _ (of.kept_so calm) (unended _ _ of.items going.read.told);
@@ -102,8 +102,8 @@ module _ {I : Type 0} (left : I → Option (List ℕ)) (may_stop : ℕ → ℕ �
   }
 
   pub later_torn : (after : Kept) (end : Ending) (fault : SourceFault) → end ≡ Torn fault → rank < length before.recording → old.over ≡ false → new.over ≡ true → after ≡ torn before rank (OfSource fault) →
-      ((start : Source I) (items : List Item) → end_the_list items ≡ old.done → IsReading left start old.source items old.line → IsFed (coming left start) (may_stop rank) (items ++ Mark end ∷ [])) →
-      IsLater left may_stop rank old before new after
+      ((start : Source I) (items : List Item) → end_the_list items ≡ old.done → IsReading left (may_answer rank) start old.source items old.line → IsFed (coming left start) (may_answer rank) (items ++ Mark end ∷ [])) →
+      IsLater left may_answer rank old before new after
   later_torn after end fault is_end within was is tears ends =
       let leaves = torn_leaves rank before after (OfSource fault) tears in record {
         leaves = leaves;
@@ -112,7 +112,7 @@ module _ {I : Type 0} (left : I → Option (List ℕ)) (may_stop : ℕ → ℕ �
           items = of.items ++ Mark (Torn fault) ∷ [];
           places = leaves.places ∙ of.places ∙ sym leaves.ranks;
           came = comes_whole source (of.items ++ Mark (Torn fault) ∷ []) is (record {
-            fed = subst (λ (e : Ending). IsFed (coming left source) (may_stop rank) (of.items ++ Mark e ∷ [])) is_end (ends source of.items going.done going.read);
+            fed = subst (λ (e : Ending). IsFed (coming left source) (may_answer rank) (of.items ++ Mark e ∷ [])) is_end (ends source of.items going.done going.read);
             sealed = λ e. absurd (never_sealed of.items fault e);
           });
           kept_so = λ calm. torn_own rank of.items before after fault within of.places (leaves.unwanted calm) tears (unended _ _ of.items going.read.told) (of.kept_so (leaves.unwanted calm));
@@ -121,8 +121,8 @@ module _ {I : Type 0} (left : I → Option (List ℕ)) (may_stop : ℕ → ℕ �
 
 -- Later times follow one another.
 
-pub are_later_still : {I : Type 0} (left : I → Option (List ℕ)) (may_stop : ℕ → ℕ → Type 0) (old now new : List (AtTurn I)) (before then after : Kept) → AreLater left may_stop old before now then → AreLater left may_stop now then new after → AreLater left may_stop old before new after
-are_later_still left may_stop old now new before then after first next = record {
+pub are_later_still : {I : Type 0} (left : I → Option (List ℕ)) (may_answer : ℕ → ℕ → Bool → Type 0) (old now new : List (AtTurn I)) (before then after : Kept) → AreLater left may_answer old before now then → AreLater left may_answer now then new after → AreLater left may_answer old before new after
+are_later_still left may_answer old now new before then after first next = record {
   count = next.count ∙ first.count;
   ranks = next.ranks ∙ first.ranks;
   places = next.places ∙ first.places;
@@ -134,33 +134,33 @@ are_later_still left may_stop old now new before then after first next = record 
 
 -- One turn goes on, and the others stay.
 
-other_stays : {I : Type 0} (left : I → Option (List ℕ)) (may_stop : ℕ → ℕ → Type 0) (rank other : ℕ) (source : Source I) (turn : AtTurn I) (before after : Kept) → LeavesOthers rank before after → other ≢ rank → IsTurnOf left may_stop other source turn before → IsTurnOf left may_stop other source turn after
-other_stays left may_stop rank other source turn before after leaves differs of = record {
+other_stays : {I : Type 0} (left : I → Option (List ℕ)) (may_answer : ℕ → ℕ → Bool → Type 0) (rank other : ℕ) (source : Source I) (turn : AtTurn I) (before after : Kept) → LeavesOthers rank before after → other ≢ rank → IsTurnOf left may_answer other source turn before → IsTurnOf left may_answer other source turn after
+other_stays left may_answer rank other source turn before after leaves differs of = record {
   items = of.items;
   places = leaves.places ∙ of.places ∙ sym leaves.ranks;
   came = of.came;
   kept_so = λ calm. rw (leaves.calls other differs, leaves.faults other differs, leaves.groups) (of.kept_so (leaves.unwanted calm));
 }
 
-one_goes_on : {I : Type 0} (left : I → Option (List ℕ)) (may_stop : ℕ → ℕ → Type 0) (turns : List (AtTurn I)) (rank : ℕ) (was now : AtTurn I) (before after : Kept) (sources : List (Source I)) (other : ℕ) (source : Source I) (turn : AtTurn I) → rank < length turns → slice_get turns rank ≡ Some was → IsLater left may_stop rank was before now after → AreTurnsOf left may_stop sources turns before → slice_get sources other ≡ Some source → slice_get (slice_set turns rank now) other ≡ Some turn → IsTurnOf left may_stop other source turn after
-one_goes_on {I = I} left may_stop turns rank was now before after sources other source turn within at later all at_source at_turn =
+one_goes_on : {I : Type 0} (left : I → Option (List ℕ)) (may_answer : ℕ → ℕ → Bool → Type 0) (turns : List (AtTurn I)) (rank : ℕ) (was now : AtTurn I) (before after : Kept) (sources : List (Source I)) (other : ℕ) (source : Source I) (turn : AtTurn I) → rank < length turns → slice_get turns rank ≡ Some was → IsLater left may_answer rank was before now after → AreTurnsOf left may_answer sources turns before → slice_get sources other ≡ Some source → slice_get (slice_set turns rank now) other ≡ Some turn → IsTurnOf left may_answer other source turn after
+one_goes_on {I = I} left may_answer turns rank was now before after sources other source turn within at later all at_source at_turn =
     ⊎_elim
     (λ (same : other ≡ rank).
     let there : Some now ≡ Some turn = sym (slice_get-set_same turns rank now within) ∙ ap (slice_get (slice_set turns rank now)) (sym same) ∙ at_turn in
     let is : now ≡ turn = cc in
     let here : slice_get sources rank ≡ Some source = ap (slice_get sources) (sym same) ∙ at_source in
-    subst (λ (n : ℕ). IsTurnOf left may_stop n source turn after) (sym same)
-    (subst (λ (t : AtTurn I). IsTurnOf left may_stop rank source t after) is (later.turn source (all.each rank source was here at))))
+    subst (λ (n : ℕ). IsTurnOf left may_answer n source turn after) (sym same)
+    (subst (λ (t : AtTurn I). IsTurnOf left may_answer rank source t after) is (later.turn source (all.each rank source was here at))))
     (λ (differs : other ≡ rank → ⊥).
-    other_stays left may_stop rank other source turn before after later.leaves differs
+    other_stays left may_answer rank other source turn before after later.leaves differs
     (all.each other source turn at_source (sym (slice_get-set_other turns rank other now differs) ∙ at_turn)))
     (cases_eq other rank)
 
 all_at : {X : Type 0} (P : X → Type 0) (xs : List X) (k : ℕ) (x : X) → All P xs → slice_get xs k ≡ Some x → P x
 all_at P xs k x all at = subst P (get_or_from_slice_get xs k x x at) (All-get_or P xs k x (slice_get_within xs k x at) all)
 
-pub set_later : {I : Type 0} (left : I → Option (List ℕ)) (may_stop : ℕ → ℕ → Type 0) (turns : List (AtTurn I)) (place rank : ℕ) (was now : AtTurn I) (before after : Kept) → place ≡ rank → rank < length turns → was ≡ get_or turns place was → IsLater left may_stop rank was before now after → AreLater left may_stop turns before (slice_set turns place now) after
-set_later left may_stop turns place rank was now before after same within read later =
+pub set_later : {I : Type 0} (left : I → Option (List ℕ)) (may_answer : ℕ → ℕ → Bool → Type 0) (turns : List (AtTurn I)) (place rank : ℕ) (was now : AtTurn I) (before after : Kept) → place ≡ rank → rank < length turns → was ≡ get_or turns place was → IsLater left may_answer rank was before now after → AreLater left may_answer turns before (slice_set turns place now) after
+set_later left may_answer turns place rank was now before after same within read later =
     let at : slice_get turns rank ≡ Some was = slice_get-get_or turns rank was within ∙ ap Some (ap (λ (n : ℕ). get_or turns n was) (sym same) ∙ sym read) in
     rw same (record {
       count = length-set turns rank now;
@@ -171,7 +171,7 @@ set_later left may_stop turns place rank was now before after same within read l
       ready = λ ready. All-set (λ turn. IsReady turn) turns rank now (later.ready (all_at (λ turn. IsReady turn) turns rank was ready at)) ready;
       turns = λ sources all. record {
         count = length-set turns rank now ∙ all.count;
-        each = λ other source turn at_source at_turn. one_goes_on left may_stop turns rank was now before after sources other source turn within at later all at_source at_turn;
+        each = λ other source turn at_source at_turn. one_goes_on left may_answer turns rank was now before after sources other source turn within at later all at_source at_turn;
       };
     })
 
@@ -226,43 +226,43 @@ ready_at sources turns k source turn within same is_source is_turn all =
     subst (λ it. IsReady it) (sym (turns_read sources turns k source turn is_source is_turn))
     (All-get_or (λ it. IsReady it) (at_turns sources turns) k (at_turn source turn) (omega (arith, within, turns_count sources turns same)) all)
 
-turn_begun : {I : Type 0} (left : I → Option (List ℕ)) (may_stop : ℕ → ℕ → Type 0) (rank : ℕ) (turn : AtTurn I) (kept : Kept) → kept ≡ nothing_kept kept.reading kept.groups → IsReady turn → IsBegun turn → IsTurnOf left may_stop rank turn.source turn kept
-turn_begun left may_stop rank turn kept nothing ready begun = record {
+turn_begun : {I : Type 0} (left : I → Option (List ℕ)) (may_answer : ℕ → ℕ → Bool → Type 0) (rank : ℕ) (turn : AtTurn I) (kept : Kept) → kept ≡ nothing_kept kept.reading kept.groups → IsReady turn → IsBegun turn → IsTurnOf left may_answer rank turn.source turn kept
+turn_begun left may_answer rank turn kept nothing ready begun = record {
   items = [];
   places = subst (λ (k : Kept). length k.faults ≡ length k.recording) (sym nothing) (places_at_first kept.reading kept.groups);
-  came = subst (λ (over : Bool). CameOf left (may_stop rank) turn.source turn [] over) (sym begun.2) (record {
-    read = record { fresh = ready begun.2; told = begins (coming left turn.source) [] refl; at = rw begun.0 refl };
+  came = subst (λ (over : Bool). CameOf left (may_answer rank) turn.source turn [] over) (sym begun.2) (record {
+    read = record { fresh = ready begun.2; told = begins (coming left turn.source) [] refl; at = rw begun.0 refl; asked = λ place below. absurd (omega (arith, below)) };
     done = sym begun.1;
   });
   kept_so = λ calm. subst (λ (k : Kept). IsKeptIn rank [] k) (sym nothing) (kept_at_first kept.reading kept.groups rank);
 }
 
-all_begun : {I : Type 0} (left : I → Option (List ℕ)) (may_stop : ℕ → ℕ → Type 0) (sources : List (Source I)) (turns : List (AtTurn I)) (kept : Kept) → kept ≡ nothing_kept kept.reading kept.groups → map source_of turns ≡ sources → All (λ turn. IsReady turn) turns → All (λ turn. IsBegun turn) turns → AreTurnsOf left may_stop sources turns kept
-all_begun {I = I} left may_stop sources turns kept nothing are ready all = record {
+all_begun : {I : Type 0} (left : I → Option (List ℕ)) (may_answer : ℕ → ℕ → Bool → Type 0) (sources : List (Source I)) (turns : List (AtTurn I)) (kept : Kept) → kept ≡ nothing_kept kept.reading kept.groups → map source_of turns ≡ sources → All (λ turn. IsReady turn) turns → All (λ turn. IsBegun turn) turns → AreTurnsOf left may_answer sources turns kept
+all_begun {I = I} left may_answer sources turns kept nothing are ready all = record {
   count = sym (length-map turns source_of) ∙ ap length are;
   each = λ rank source turn at_source at_turn.
       let there : Some turn.source ≡ Some source = sym (mapped_at source_of turns rank turn at_turn) ∙ ap (λ (ss : List (Source I)). slice_get ss rank) are ∙ at_source in
       let same : turn.source ≡ source = cc in
-      subst (λ (one : Source I). IsTurnOf left may_stop rank one turn kept) same (turn_begun left may_stop rank turn kept nothing (all_at (λ turn. IsReady turn) turns rank turn ready at_turn) (all_at (λ turn. IsBegun turn) turns rank turn all at_turn));
+      subst (λ (one : Source I). IsTurnOf left may_answer rank one turn kept) same (turn_begun left may_answer rank turn kept nothing (all_at (λ turn. IsReady turn) turns rank turn ready at_turn) (all_at (λ turn. IsBegun turn) turns rank turn all at_turn));
 }
 
 -- Turns that are over.
 
-read_by : {I : Type 0} (left : I → Option (List ℕ)) (may_stop : ℕ → ℕ → Type 0) (rank : ℕ) (source : Source I) (turn : AtTurn I) (kept : Kept) → turn.over ≡ true → IsTurnOf left may_stop rank source turn kept → IsReadOf left may_stop rank source kept
-read_by left may_stop rank source turn kept over of = record {
+read_by : {I : Type 0} (left : I → Option (List ℕ)) (may_answer : ℕ → ℕ → Bool → Type 0) (rank : ℕ) (source : Source I) (turn : AtTurn I) (kept : Kept) → turn.over ≡ true → IsTurnOf left may_answer rank source turn kept → IsReadOf left may_answer rank source kept
+read_by left may_answer rank source turn kept over of = record {
   items = of.items;
-  whole = subst (λ (o : Bool). CameOf left (may_stop rank) source turn of.items o) over of.came;
+  whole = subst (λ (o : Bool). CameOf left (may_answer rank) source turn of.items o) over of.came;
   kept_so = of.kept_so;
 }
 
-pub all_read : {I : Type 0} (left : I → Option (List ℕ)) (may_stop : ℕ → ℕ → Type 0) (sources : List (Source I)) (begun over : List (AtTurn I)) (first last : Kept) → length first.recording ≡ length sources → first ≡ nothing_kept first.reading first.groups → map source_of begun ≡ sources → All (λ turn. IsReady turn) begun → All (λ turn. IsBegun turn) begun → AreLater left may_stop begun first over last → All (λ turn. IsOver turn) over → AreReadOf left may_stop sources last
-all_read left may_stop sources begun over first last one nothing are ready all later ends =
-    let turns = later.turns sources (all_begun left may_stop sources begun first nothing are ready all) in record {
+pub all_read : {I : Type 0} (left : I → Option (List ℕ)) (may_answer : ℕ → ℕ → Bool → Type 0) (sources : List (Source I)) (begun over : List (AtTurn I)) (first last : Kept) → length first.recording ≡ length sources → first ≡ nothing_kept first.reading first.groups → map source_of begun ≡ sources → All (λ turn. IsReady turn) begun → All (λ turn. IsBegun turn) begun → AreLater left may_answer begun first over last → All (λ turn. IsOver turn) over → AreReadOf left may_answer sources last
+all_read left may_answer sources begun over first last one nothing are ready all later ends =
+    let turns = later.turns sources (all_begun left may_answer sources begun first nothing are ready all) in record {
       one_a_rank = later.ranks ∙ one;
       places = later.places ∙ subst (λ (k : Kept). length k.faults ≡ length k.recording) (sym nothing) (places_at_first first.reading first.groups) ∙ sym later.ranks;
       each = λ rank source at.
           let turn = found_at over rank (omega (arith, turns.count, slice_get_within sources rank source at)) in
-          read_by left may_stop rank source turn.0 last (all_at (λ turn. IsOver turn) over rank turn.0 ends turn.1) (turns.each rank source turn.0 at turn.1);
+          read_by left may_answer rank source turn.0 last (all_at (λ turn. IsOver turn) over rank turn.0 ends turn.1) (turns.each rank source turn.0 at turn.1);
     }
 
 -- all turns were looked at

@@ -1,6 +1,6 @@
 -- What is answered of records that were read by turns: the answer over the traces that their items make.
 use Rattle.moves.specs.declared.reading.Reading.{Reading}
-use Rattle.std.proofs.Common.{◌≡◌, ℕ, zero, suc, ◌+◌, ◌<◌, true, false, Option, Some, None, Result, Ok, Err, IfOk, IfErr, List, [], ◌∷◌, length, map, slice_get, refl, sym, ap, subst, ◌∙◌, inl, arith}
+use Rattle.std.proofs.Common.{◌≡◌, ℕ, Bool, zero, suc, ◌+◌, ◌<◌, true, false, Option, Some, None, Result, Ok, Err, IfOk, IfErr, List, [], ◌∷◌, length, map, slice_get, refl, sym, ap, subst, ◌∙◌, inl, arith}
 use Rattle.mpicall.specs.Source.{coming}
 use Rattle.mpicall.specs.declared.call.Call.{Call}
 use Rattle.mpicall.specs.declared.source.Source.{Source}
@@ -28,15 +28,15 @@ use Rattle.gather.proofs.CloseLemmas.{own_none, behind_none, same_fault_by, faul
 use Rattle.gather.proofs.FedLemmas.{marked_end}
 
 -- what is kept of a rank whose source was read
-record IsKeptWhole {I : Type 0} (left : I → Option (List ℕ)) (may_stop : ℕ → ℕ → Type 0) (groups : Groups) (rank : ℕ) (source : Source I) (calls : List Call) (fault : Option PlacedFault) : Type 0 where
+record IsKeptWhole {I : Type 0} (left : I → Option (List ℕ)) (may_answer : ℕ → ℕ → Bool → Type 0) (groups : Groups) (rank : ℕ) (source : Source I) (calls : List Call) (fault : Option PlacedFault) : Type 0 where
   items : List Item
-  fed : IsFed (coming left source) (may_stop rank) items
+  fed : IsFed (coming left source) (may_answer rank) items
   first : fault ≡ fault_of_rank groups rank (trace_of_items items)
   all : fault ≡ None → calls ≡ calls_among items
   ended : fault ≡ None → is_ended calls ≡ true
 
-kept_whole : {I : Type 0} (left : I → Option (List ℕ)) (may_stop : ℕ → ℕ → Type 0) (rank : ℕ) (source : Source I) (kept : Kept) → IsReadOf left may_stop rank source kept → kept.wanted ≡ false → IsKeptWhole left may_stop kept.groups rank source (calls_of kept.recording rank) (fault_at kept.faults rank)
-kept_whole left may_stop rank source kept read calm =
+kept_whole : {I : Type 0} (left : I → Option (List ℕ)) (may_answer : ℕ → ℕ → Bool → Type 0) (rank : ℕ) (source : Source I) (kept : Kept) → IsReadOf left may_answer rank source kept → kept.wanted ≡ false → IsKeptWhole left may_answer kept.groups rank source (calls_of kept.recording rank) (fault_at kept.faults rank)
+kept_whole left may_answer rank source kept read calm =
     let k = read.kept_so calm in
     let fed = read.whole.fed in
     let is : end_mark_of read.items ≡ Some fed.end = ap end_mark_of fed.are ∙ marked_end fed.calls fed.end in
@@ -56,20 +56,20 @@ ended_at calls lists zero own rest within = own
 ended_at calls lists (suc k) own rest within = rest k (omega (arith, within))
 
 -- of ranks from `first` on: their items, and what these give
-record AreKeptWhole {I : Type 0} (left : I → Option (List ℕ)) (may_stop : ℕ → ℕ → Type 0) (groups : Groups) (first : ℕ) (sources : List (Source I)) (faults : List (Option PlacedFault)) (lists : Lists) : Type 0 where
+record AreKeptWhole {I : Type 0} (left : I → Option (List ℕ)) (may_answer : ℕ → ℕ → Bool → Type 0) (groups : Groups) (first : ℕ) (sources : List (Source I)) (faults : List (Option PlacedFault)) (lists : Lists) : Type 0 where
   items : List (List Item)
-  fed : AreFedBy left may_stop first sources items
+  fed : AreFedBy left may_answer first sources items
   refusal : refusal_in first faults ≡ refusal_from groups first (map trace_of_items items)
   recording : refusal_in first faults ≡ None → lists ≡ recording_of_traces (map trace_of_items items)
   ended : refusal_in first faults ≡ None → (k : ℕ) → k < length lists → is_ended (calls_of lists k) ≡ true
 
-all_whole : {I : Type 0} (left : I → Option (List ℕ)) (may_stop : ℕ → ℕ → Type 0) (groups : Groups) (first : ℕ) (sources : List (Source I)) (faults : List (Option PlacedFault)) (lists : Lists) → length faults ≡ length sources → length lists ≡ length sources → ((k : ℕ) (source : Source I) → slice_get sources k ≡ Some source → IsKeptWhole left may_stop groups (first + k) source (calls_of lists k) (fault_at faults k)) → AreKeptWhole left may_stop groups first sources faults lists
-all_whole left may_stop groups first [] [] [] places one each = record { items = []; fed = tt; refusal = refl; recording = λ none. refl; ended = λ none k within. absurd (omega (arith, within)) }
-all_whole left may_stop groups first (s ∷ ss) (f ∷ fs) (l ∷ ls) places one each =
+all_whole : {I : Type 0} (left : I → Option (List ℕ)) (may_answer : ℕ → ℕ → Bool → Type 0) (groups : Groups) (first : ℕ) (sources : List (Source I)) (faults : List (Option PlacedFault)) (lists : Lists) → length faults ≡ length sources → length lists ≡ length sources → ((k : ℕ) (source : Source I) → slice_get sources k ≡ Some source → IsKeptWhole left may_answer groups (first + k) source (calls_of lists k) (fault_at faults k)) → AreKeptWhole left may_answer groups first sources faults lists
+all_whole left may_answer groups first [] [] [] places one each = record { items = []; fed = tt; refusal = refl; recording = λ none. refl; ended = λ none k within. absurd (omega (arith, within)) }
+all_whole left may_answer groups first (s ∷ ss) (f ∷ fs) (l ∷ ls) places one each =
     let zero_more : first + 0 ≡ first = omega arith in
-    let own : IsKeptWhole left may_stop groups first s l f = subst (λ (n : ℕ). IsKeptWhole left may_stop groups n s l f) zero_more (each 0 s refl) in
-    let rest = all_whole left may_stop groups (first + 1) ss fs ls (omega (arith, places)) (omega (arith, one))
-    (λ k source at. let e : first + suc k ≡ first + 1 + k = omega arith in subst (λ (n : ℕ). IsKeptWhole left may_stop groups n source (calls_of ls k) (fault_at fs k)) e (each (suc k) source at)) in record {
+    let own : IsKeptWhole left may_answer groups first s l f = subst (λ (n : ℕ). IsKeptWhole left may_answer groups n s l f) zero_more (each 0 s refl) in
+    let rest = all_whole left may_answer groups (first + 1) ss fs ls (omega (arith, places)) (omega (arith, one))
+    (λ k source at. let e : first + suc k ≡ first + 1 + k = omega arith in subst (λ (n : ℕ). IsKeptWhole left may_answer groups n source (calls_of ls k) (fault_at fs k)) e (each (suc k) source at)) in record {
       items = own.items ∷ rest.items;
       fed = (inl own.fed, rest.fed);
       refusal = ap (λ (x : Option PlacedFault). refusal_or first x (refusal_in (first + 1) fs)) own.first
@@ -77,22 +77,22 @@ all_whole left may_stop groups first (s ∷ ss) (f ∷ fs) (l ∷ ls) places one
       recording = λ none. ap (λ (x : List Call). x ∷ ls) (own.all (own_none first f _ none)) ∙ ap (λ (xs : Lists). calls_among own.items ∷ xs) (rest.recording (behind_none first f _ none));
       ended = λ none k within. ended_at l ls k (own.ended (own_none first f _ none)) (rest.ended (behind_none first f _ none)) within;
     }
-all_whole left may_stop groups first sources faults lists places one each = cc
+all_whole left may_answer groups first sources faults lists places one each = cc
 
-module _ {I : Type 0} (left : I → Option (List ℕ)) (may_stop : ℕ → ℕ → Type 0) (sources : List (Source I)) (kept : Kept) where
-  read_whole : AreReadOf left may_stop sources kept → kept.wanted ≡ false → AreKeptWhole left may_stop kept.groups 0 sources kept.faults kept.recording
+module _ {I : Type 0} (left : I → Option (List ℕ)) (may_answer : ℕ → ℕ → Bool → Type 0) (sources : List (Source I)) (kept : Kept) where
+  read_whole : AreReadOf left may_answer sources kept → kept.wanted ≡ false → AreKeptWhole left may_answer kept.groups 0 sources kept.faults kept.recording
   read_whole read calm =
-      all_whole left may_stop kept.groups 0 sources kept.faults kept.recording (read.places ∙ read.one_a_rank) read.one_a_rank
+      all_whole left may_answer kept.groups 0 sources kept.faults kept.recording (read.places ∙ read.one_a_rank) read.one_a_rank
       (λ k source at. let e : k ≡ 0 + k = omega arith in
-      subst (λ (n : ℕ). IsKeptWhole left may_stop kept.groups n source (calls_of kept.recording k) (fault_at kept.faults k)) e (kept_whole left may_stop k source kept (read.each k source at) calm))
+      subst (λ (n : ℕ). IsKeptWhole left may_answer kept.groups n source (calls_of kept.recording k) (fault_at kept.faults k)) e (kept_whole left may_answer k source kept (read.each k source at) calm))
 
-  pub read_closed : AreReadOf left may_stop sources kept → kept.wanted ≡ false → refusal_kept kept ≡ None → IsLawful kept.groups kept.recording → IsClosed kept.recording
+  pub read_closed : AreReadOf left may_answer sources kept → kept.wanted ≡ false → refusal_kept kept ≡ None → IsLawful kept.groups kept.recording → IsClosed kept.recording
   read_closed read calm none lawful =
       let all = read_whole read calm in
       λ rank is_rank. an_ended_lawful_list_is_closed kept.groups rank (calls_of kept.recording rank) (lawful rank is_rank) (all.ended none rank is_rank)
 
   module _ (reading : Reading) (groups : Groups) where
-    outcome_read : (outcome : Analysed) → AreReadOf left may_stop sources kept → kept.reading ≡ reading → kept.groups ≡ groups → kept.wanted ≡ false → IsOutcomeOf (refusal_kept kept) kept.reading kept.groups kept.recording outcome → IsOutcomeOfFeeds left may_stop sources reading groups outcome
+    outcome_read : (outcome : Analysed) → AreReadOf left may_answer sources kept → kept.reading ≡ reading → kept.groups ≡ groups → kept.wanted ≡ false → IsOutcomeOf (refusal_kept kept) kept.reading kept.groups kept.recording outcome → IsOutcomeOfFeeds left may_answer sources reading groups outcome
     outcome_read outcome read alike same calm is =
         let all = read_whole read calm in
         let recording = all.recording is.no_refusal in
@@ -109,19 +109,19 @@ module _ {I : Type 0} (left : I → Option (List ℕ)) (may_stop : ℕ → ℕ �
               (subst (λ (r : Reading). IsOutcomeOver r kept.groups (map trace_of_items all.items) outcome) alike over);
         }
 
-    refusal_read : (refusal : Refusal) → AreReadOf left may_stop sources kept → kept.reading ≡ reading → kept.groups ≡ groups → kept.wanted ≡ false → refusal_kept kept ≡ Some refusal → IsRefusalOfFeeds left may_stop sources groups refusal
+    refusal_read : (refusal : Refusal) → AreReadOf left may_answer sources kept → kept.reading ≡ reading → kept.groups ≡ groups → kept.wanted ≡ false → refusal_kept kept ≡ Some refusal → IsRefusalOfFeeds left may_answer sources groups refusal
     refusal_read refusal read alike same calm is =
         let all = read_whole read calm in record {
           traces = map trace_of_items all.items;
-          read = all_read left may_stop 0 sources all.items all.fed;
+          read = all_read left may_answer 0 sources all.items all.fed;
           over = ap (λ (gs : Groups). refusal_of gs (map trace_of_items all.items)) (sym same) ∙ sym all.refusal ∙ is;
         }
 
-    pub concludes_well : (answer : Result Analysed CloseFault) → AreReadOf left may_stop sources kept → kept.reading ≡ reading → kept.groups ≡ groups → Concludes kept answer → IfOk answer (IsOutcomeOfFeeds left may_stop sources reading groups)
+    pub concludes_well : (answer : Result Analysed CloseFault) → AreReadOf left may_answer sources kept → kept.reading ≡ reading → kept.groups ≡ groups → Concludes kept answer → IfOk answer (IsOutcomeOfFeeds left may_answer sources reading groups)
     concludes_well (Ok outcome) read alike same c = outcome_read outcome read alike same c.0 c.1
     concludes_well (Err fault) read alike same c = tt
 
-    pub concludes_refusing : (answer : Result Analysed CloseFault) → AreReadOf left may_stop sources kept → kept.reading ≡ reading → kept.groups ≡ groups → Concludes kept answer → IfErr answer (λ fault. RefusesFeeds left may_stop sources groups (of_close fault))
+    pub concludes_refusing : (answer : Result Analysed CloseFault) → AreReadOf left may_answer sources kept → kept.reading ≡ reading → kept.groups ≡ groups → Concludes kept answer → IfErr answer (λ fault. RefusesFeeds left may_answer sources groups (of_close fault))
     concludes_refusing (Ok outcome) read alike same c = tt
     concludes_refusing (Err Memory) read alike same c = tt
     concludes_refusing (Err (Unproved rank)) read alike same c = absurd c

@@ -13,6 +13,7 @@
 //! - At a refusal nothing was written. Where the bytes are known, no lower rank has a fault, and the place
 //!   and the fault are that rank's first by definition, unless the fault is one of a read, the gate or a
 //!   thread.
+//! - The gate was asked of each line that was read.
 //! - A write that failed is reported only where that device's count of failures rose.
 //!
 //! By threads it uses the sessions of the crate `gather`; `threads` feeds one from a source by a thread for

@@ -32,7 +32,7 @@ fn read_next<I: Input, G: Gate>(
     requires is_rank { rank < length ledger.old.recording }
     requires going { turn.old.over ≡ false }
     requires fresh { ended source.old ≡ None }
-    ensures { IsLater I.left (G.may_stop gate.now) rank (at_turn source.old turn.old) ledger.old (at_turn source.new turn.new) ledger.new }
+    ensures { IsLater I.left (G.may_answer gate.now) rank (at_turn source.old turn.old) ledger.old (at_turn source.new turn.new) ledger.new }
 {
     match next_of(rank, source, turn.done, &mut turn.line, into, gate) {
         None => {
@@ -69,7 +69,7 @@ fn take_a_turn<I: Input, G: Gate>(
 )
     requires is_rank { rank < length ledger.old.recording }
     requires ready { IsReady (at_turn source.old turn.old) }
-    ensures { IsLater I.left (G.may_stop gate.now) rank (at_turn source.old turn.old) ledger.old (at_turn source.new turn.new) ledger.new }
+    ensures { IsLater I.left (G.may_answer gate.now) rank (at_turn source.old turn.old) ledger.old (at_turn source.new turn.new) ledger.new }
 {
     let mut into = Record::finalize();
     for _ in 0..RECORDS_A_TURN {
@@ -90,7 +90,7 @@ fn take_a_round<I: Input, G: Gate>(
     requires one_a_rank { length ledger.old.recording ≡ vec_len sources.old }
     requires one_a_source { vec_len turns.old ≡ vec_len sources.old }
     requires ready { All (λ turn. IsReady turn) (at_turns sources.old.items turns.old.items) }
-    ensures later { AreLater I.left (G.may_stop gate.now) (at_turns sources.old.items turns.old.items) ledger.old (at_turns sources.new.items turns.new.items) ledger.new }
+    ensures later { AreLater I.left (G.may_answer gate.now) (at_turns sources.old.items turns.old.items) ledger.old (at_turns sources.new.items turns.new.items) ledger.new }
     ensures sources { vec_len sources.new ≡ vec_len sources.old }
     ensures turns { vec_len turns.new ≡ vec_len turns.old }
 {
@@ -118,7 +118,7 @@ fn take_all_turns<I: Input, G: Gate>(
     requires one_a_rank { length ledger.old.recording ≡ vec_len sources.old }
     requires one_a_source { vec_len turns.old ≡ vec_len sources.old }
     requires ready { All (λ turn. IsReady turn) (at_turns sources.old.items turns.old.items) }
-    ensures turns { AreLater I.left (G.may_stop gate.now) (at_turns sources.old.items turns.old.items) ledger.old (at_turns sources.new.items turns.new.items) ledger.new }
+    ensures turns { AreLater I.left (G.may_answer gate.now) (at_turns sources.old.items turns.old.items) ledger.old (at_turns sources.new.items turns.new.items) ledger.new }
     ensures over { All (λ turn. turn.over ≡ true) turns.new.items }
 {
     for _ in wait.forever() {
@@ -147,7 +147,7 @@ pub(crate) fn read_in_turns<I: Input + Drop, G: Gate>(
     requires none_begun { turns.items ≡ replicate (length sources.items) first_turn }
     ensures reading { result.reading ≡ ledger.reading }
     ensures groups { result.groups ≡ ledger.groups }
-    ensures read { AreReadOf I.left (G.may_stop gate.now) sources.items result }
+    ensures read { AreReadOf I.left (G.may_answer gate.now) sources.items result }
 {
     let mut ledger = ledger;
     let mut sources = sources;

@@ -7,7 +7,7 @@ ghost use Rattle.gather.specs.Outcomes.{refusal_of};
 ghost use Rattle.driver.specs.VerdictContract.{AreFresh, Tells, IsVerdictOver, RefusesOver, TheTraceToComeIsRead};
 ghost use Rattle.driver.specs.inner.Ranks.{Reported, NotReported};
 ghost use Rattle.driver.specs.OutputContract.{LeavesOutput, WritesReport};
-ghost use Rattle.driver.specs.Runs.{RefusesFeeds, StopsWhereAllowed};
+ghost use Rattle.driver.specs.Runs.{AcceptsFeeds, RefusesFeeds, StopsWhereAllowed};
 ghost use Rattle.driver.specs.inner.Runs.{receipt_of, of_close, IsOutcomeOfFeeds};
 
 use crate::round_robin::read_in_turns;
@@ -79,8 +79,8 @@ where
     requires room { 0 < capacity }
     requires one_a_rank { length sources.items ≡ ranks_of head }
     requires fresh { AreFresh sources.items }
-    ensures ok { IfOk result (IsOutcomeOfFeeds I.left (G.may_stop gate.now) sources.items reading head) }
-    ensures fault { IfErr result (λ fault. RefusesFeeds I.left (G.may_stop gate.now) sources.items head (of_close fault)) }
+    ensures ok { IfOk result (IsOutcomeOfFeeds I.left (G.may_answer gate.now) sources.items reading head) }
+    ensures fault { IfErr result (λ fault. RefusesFeeds I.left (G.may_answer gate.now) sources.items head (of_close fault)) }
 {
     let ranks = sources.len();
     let Ok(started) = Vec::with_capacity(alloc, ranks) else {
@@ -130,8 +130,8 @@ where
     R: Wait,
     requires one_a_rank { length sources.items ≡ ranks_of head }
     requires fresh { AreFresh sources.items }
-    ensures ok { IfOk result (IsOutcomeOfFeeds I.left (G.may_stop gate.now) sources.items reading head) }
-    ensures fault { IfErr result (λ fault. RefusesFeeds I.left (G.may_stop gate.now) sources.items head (of_close fault)) }
+    ensures ok { IfOk result (IsOutcomeOfFeeds I.left (G.may_answer gate.now) sources.items reading head) }
+    ensures fault { IfErr result (λ fault. RefusesFeeds I.left (G.may_answer gate.now) sources.items head (of_close fault)) }
 {
     let Ok(turns) = vec![in alloc; Turn::first(); sources.len()] else {
         return Err(CloseFault::Memory);
@@ -162,9 +162,9 @@ where
     requires room { 0 < capacity }
     requires one_a_rank { length sources.items ≡ ranks_of head }
     requires fresh { AreFresh sources.items }
-    ensures ok { IfOk result (IsOutcomeOfFeeds I.left (G.may_stop gate.now) sources.items reading head) }
-    ensures fault { IfErr result (λ fault. RefusesFeeds I.left (G.may_stop gate.now) sources.items head (of_close fault)) }
-    ensures stopped { IfErr result (λ fault. StopsWhereAllowed (G.may_stop gate.now) (of_close fault)) }
+    ensures ok { IfOk result (IsOutcomeOfFeeds I.left (G.may_answer gate.now) sources.items reading head) }
+    ensures fault { IfErr result (λ fault. RefusesFeeds I.left (G.may_answer gate.now) sources.items head (of_close fault)) }
+    ensures stopped { IfErr result (λ fault. StopsWhereAllowed (G.may_answer gate.now) (of_close fault)) }
 {
     match by {
         ReadBy::Threads { stack_size } => {
@@ -244,9 +244,11 @@ where
     ensures refused { IfErr result (λ fault. (traces : List TraceValue) →
         Tells I.left sources.items traces → RefusesOver head traces fault) }
 
-    // A refusal is that of what was read of the ranks' sources, and the gate stops no rank where it may not.
-    ensures fed { IfErr result (RefusesFeeds I.left (G.may_stop gate.now) sources.items head) }
-    ensures stopped { IfErr result (StopsWhereAllowed (G.may_stop gate.now)) }
+    // The gate was asked of each line that was read, and stops no rank where it may not. A refusal is that of what
+    // was read of the ranks' sources.
+    ensures asked { OnOk result (AcceptsFeeds I.left (G.may_answer gate.now) sources.items head) }
+    ensures fed { IfErr result (RefusesFeeds I.left (G.may_answer gate.now) sources.items head) }
+    ensures stopped { IfErr result (StopsWhereAllowed (G.may_answer gate.now)) }
 
     // What is written is the report of those traces, with that verdict.
     ensures written { IfOk result (WritesReport I.left O.written O.failures sources.items reading head format out.old out.new) }
@@ -291,8 +293,9 @@ where
     ensures refused { IfErr result (λ fault. (traces : List TraceValue) →
         Tells I.left sources.items traces → RefusesOver head traces fault) }
 
-    ensures fed { IfErr result (RefusesFeeds I.left (G.may_stop gate.now) sources.items head) }
-    ensures stopped { IfErr result (StopsWhereAllowed (G.may_stop gate.now)) }
+    ensures asked { OnOk result (AcceptsFeeds I.left (G.may_answer gate.now) sources.items head) }
+    ensures fed { IfErr result (RefusesFeeds I.left (G.may_answer gate.now) sources.items head) }
+    ensures stopped { IfErr result (StopsWhereAllowed (G.may_answer gate.now)) }
 
     ensures written { IfOk result (WritesReport I.left O.written O.failures sources.items reading head format out.old out.new) }
 

@@ -49,7 +49,7 @@ where
     requires room_behind { vec_len sources ≤ vec_capacity fed }
     ensures same { IsSameSession collector result.0 }
     ensures len { vec_len result.1 ≡ vec_len sources }
-    ensures fed { AreFedFrom I.left (G.may_stop gate.now) sources.items feeds.items result.1.items }
+    ensures fed { AreFedFrom I.left (G.may_answer gate.now) sources.items feeds.items result.1.items }
 {
     let mut collector = collector;
     let all = Started::start_all(
@@ -96,7 +96,7 @@ where
     requires room_behind { vec_len sources ≤ vec_capacity fed }
     ensures same { IsSameSession collector result.0 }
     ensures len { vec_len result.1 ≡ vec_len sources }
-    ensures fed { AreFedFrom I.left (G.may_stop gate.now) sources.items feeds.items result.1.items }
+    ensures fed { AreFedFrom I.left (G.may_answer gate.now) sources.items feeds.items result.1.items }
 {
     thread::scope(
         thread::scope_env(),
@@ -111,7 +111,7 @@ where
             requires room_behind { vec_len sources ≤ vec_capacity fed }
             ensures same { IsSameSession collector result.0 }
             ensures len { vec_len result.1 ≡ vec_len sources }
-            ensures fed { AreFedFrom I.left (G.may_stop gate.entry.now) sources.items feeds.items result.1.items }
+            ensures fed { AreFedFrom I.left (G.may_answer gate.entry.now) sources.items feeds.items result.1.items }
         {
             in_scope(
                 scope,

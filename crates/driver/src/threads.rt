@@ -63,7 +63,7 @@ pub struct Feeding<I, G> {
 impl<I: Input, G: Gate> Promise<FeedResult> for Feeding<I, G> {
     ghost use Rattle.driver.specs.Threads.{IsFedFrom};
 
-    ghost kept_by = { λ promise fed. IsFedFrom I.left (G.may_stop promise.gate.value) promise.source.value promise.feed.value fed };
+    ghost kept_by = { λ promise fed. IsFedFrom I.left (G.may_answer promise.gate.value) promise.source.value promise.feed.value fed };
 }
 
 impl FeedResult {
@@ -82,7 +82,7 @@ impl FeedResult {
     ) -> FeedResult
         requires fresh { ended source ≡ None }
         requires nothing_put { sent_by feed_end ≡ [] }
-        ensures { IsFedFrom I.left (G.may_stop gate.now) source feed_end result }
+        ensures { IsFedFrom I.left (G.may_answer gate.now) source feed_end result }
     {
         let mut source = source;
         let rank = feed_end.rank();
@@ -126,7 +126,7 @@ impl<I: Input, G: Gate> Started<I, G> {
         G: Sync,
         requires fresh { ended source ≡ None }
         requires nothing_put { sent_by feed_end ≡ [] }
-        ensures { Promises I.left G.may_stop source feed_end gate.now result }
+        ensures { Promises I.left G.may_answer source feed_end gate.now result }
     {
         let rank = feed_end.rank();
         let promise = Feeding {
@@ -151,7 +151,7 @@ impl<I: Input, G: Gate> Started<I, G> {
     /// Waits until the thread ended, and answers what came of it.
     pub fn finish(self, rt: &impl Threads) -> FeedResult
         ensures { (source : SourceValue I) (feed : FeedValue) (gate : G) →
-            Promises I.left G.may_stop source feed gate self → IsFedFrom I.left (G.may_stop gate) source feed result }
+            Promises I.left G.may_answer source feed gate self → IsFedFrom I.left (G.may_answer gate) source feed result }
     {
         match self {
             Started::Running(handle) => handle.join(rt),
@@ -180,7 +180,7 @@ impl<I: Input, G: Gate> Started<I, G> {
         requires none_started { started.items ≡ [] }
         requires room { vec_len sources ≤ vec_capacity started }
         ensures len { vec_len result ≡ vec_len sources }
-        ensures promises { AllPromise I.left G.may_stop sources.items feeds.items gate.now result.items }
+        ensures promises { AllPromise I.left G.may_answer sources.items feeds.items gate.now result.items }
     {
         let mut started = started;
         let mut feeds = feeds.into_iter();
@@ -208,8 +208,8 @@ impl<I: Input, G: Gate> Started<I, G> {
         requires room { vec_len started ≤ vec_capacity fed }
         ensures len { vec_len result ≡ vec_len started }
         ensures fed { (sources : List (SourceValue I)) (feeds : List FeedValue) (gate : G) →
-            AllPromise I.left G.may_stop sources feeds gate started.items →
-            AreFedFrom I.left (G.may_stop gate) sources feeds result.items }
+            AllPromise I.left G.may_answer sources feeds gate started.items →
+            AreFedFrom I.left (G.may_answer gate) sources feeds result.items }
     {
         let mut fed = fed;
         for thread in started {

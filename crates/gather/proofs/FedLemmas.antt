@@ -1,8 +1,8 @@
 -- How the trace of a source goes on after the records that were put.
-use Rattle.std.proofs.Common.{◌≡◌, ℕ, ◌+◌, ◌-◌, ◌^◌, min, length, List, [], ◌∷◌, ◌++◌, sym, ap, ◌∙◌, refl, Option, Some, None, Result, Ok, Err, IfOk, append_assoc, map, IfSome, Bool, true, false, not, ◌⊎◌, inl, inr, cond, arith, subst}
+use Rattle.std.proofs.Common.{◌≡◌, ℕ, zero, suc, ◌+◌, ◌-◌, ◌^◌, min, length, List, [], ◌∷◌, ◌++◌, sym, ap, ◌∙◌, refl, Option, Some, None, Result, Ok, Err, IfOk, append_assoc, map, IfSome, Bool, true, false, not, ◌⊎◌, inl, inr, cond, arith, subst, ⊎_elim, ◌<◌}
 use Rattle.std.specs.Prelude.{⊤}
 use Rattle.std.proofs.lemmas.Bool.{false≢true}
-use Rattle.std.proofs.lemmas.List.{map-append, length_push}
+use Rattle.std.proofs.lemmas.List.{map-append, length-map, length_push}
 use Rattle.mpicall.specs.Device.{count_if, one_more}
 use Rattle.mpicall.specs.Ending.{ends_list}
 use Rattle.mpicall.specs.Lines.{lines_of}
@@ -24,7 +24,7 @@ use Rattle.mpicall.specs.declared.fault.Ending.TheVariants.{Sealed, Torn}
 use Rattle.rankfeed.specs.declared.item.Item.{Item}
 use Rattle.rankfeed.specs.declared.item.Item.TheVariants.{Entry, Mark}
 use Rattle.rankfeed.proofs.ItemLemmas.{last_item-push}
-use Rattle.gather.specs.FeedContract.{marked, end_behind, mark_of, CountsReads, EndsAs, StopsAs, line_behind, IsFed, is_failed_read, TraceGoesOn, Continues}
+use Rattle.gather.specs.FeedContract.{marked, AreAsked, passages, end_behind, mark_of, CountsReads, EndsAs, StopsAs, line_behind, IsFed, is_failed_read, TraceGoesOn, Continues}
 
 -- No record follows the one that ends the list.
 
@@ -120,10 +120,38 @@ one_further told now next items more call c gives is = record {
   goes_on = goes_further told now next c.calls call c.goes_on gives;
 }
 
+-- How often the gate was asked.
+
+at_or_below : (k n : ℕ) → k < n + 1 → (k < n) ⊎ (k ≡ n)
+at_or_below zero zero below = inr refl
+at_or_below zero (suc n) below = inl (omega arith)
+at_or_below (suc k) zero below = absurd (omega (arith, below))
+at_or_below (suc k) (suc n) below =
+    ⊎_elim (λ (less : k < n). inl (omega (arith, less))) (λ (same : k ≡ n). inr (ap suc same)) (at_or_below k n (omega (arith, below)))
+
+-- one question more, at the next line, let the source be asked
+pub asked_more : (may_answer : ℕ → Bool → Type 0) (count line : ℕ) (answer : Bool) → AreAsked may_answer count → line ≡ line_behind count → may_answer line answer → answer ≡ true → AreAsked may_answer (count + 1)
+asked_more may_answer count line answer before at may passes place below =
+    ⊎_elim
+    (λ (earlier : place < count). before place earlier)
+    (λ (here : place ≡ count). subst (λ (k : ℕ). may_answer (line_behind k) true) (sym here) (subst (λ (l : ℕ). may_answer l true) at (subst (λ (b : Bool). may_answer line b) passes may)))
+    (at_or_below place count below)
+
+calls_count : (items : List Item) (calls : List Call) → items ≡ map Entry calls → length items ≡ length calls
+calls_count items calls is = ap (λ (xs : List Item). length xs) is ∙ length-map calls Entry
+
+asked_calls : (may_answer : ℕ → Bool → Type 0) (items : List Item) (calls : List Call) → items ≡ map Entry calls → AreAsked may_answer (length items + 1) → AreAsked may_answer (length calls + 1)
+asked_calls may_answer items calls is asked = subst (λ (n : ℕ). AreAsked may_answer (n + 1)) (calls_count items calls is) asked
+
+pub asked_push : (may_answer : ℕ → Bool → Type 0) (items more : List Item) (call : Call) → more ≡ items ++ Entry call ∷ [] → AreAsked may_answer (length items + 1) → AreAsked may_answer (length more)
+asked_push may_answer items more call is asked =
+    let count : length items + 1 ≡ length more = sym (ap (λ (xs : List Item). length xs) is ∙ length_push items (Entry call)) in
+    subst (λ (n : ℕ). AreAsked may_answer n) count asked
+
 -- After an end mark.
 
-fed_by : (told : Option Trace) (may_stop : ℕ → Type 0) (items all : List Item) (calls : List Call) (end : Ending) → items ≡ map Entry calls → all ≡ items ++ Mark end ∷ [] → IfSome told (λ whole. EndsAs whole calls end) → StopsAs may_stop calls end → IsFed told may_stop all
-fed_by told may_stop items all calls end are is whole stops = record { calls = calls; end = end; are = is ∙ ap (λ xs. xs ++ Mark end ∷ []) are; whole = whole; stopped = stops }
+fed_by : (told : Option Trace) (may_answer : ℕ → Bool → Type 0) (items all : List Item) (calls : List Call) (end : Ending) → items ≡ map Entry calls → all ≡ items ++ Mark end ∷ [] → IfSome told (λ whole. EndsAs whole calls end) → StopsAs may_answer calls end → AreAsked may_answer (passages calls end) → IsFed told may_answer all
+fed_by told may_answer items all calls end are is whole stops asked = record { calls = calls; end = end; are = is ∙ ap (λ xs. xs ++ Mark end ∷ []) are; whole = whole; stopped = stops; asked = asked }
 
 -- no record comes after the one that ends the list, where the trace is known
 no_more : (told now next : Option Trace) (calls : List Call) (call : Call) (end : Ending) → TraceGoesOn told calls now → IfSome told (λ whole. IsClosed whole.records) → end_the_list (map Entry calls) ≡ true → Gives now next (Ok (Some call)) → IfSome told (λ whole. EndsAs whole calls end)
@@ -135,10 +163,10 @@ no_more (Some whole) (Some rest) next calls call end c closed ends gives =
     let records : whole.records ≡ calls ++ call ∷ gives.0.records = c.2.records ∙ ap (λ (t : Trace). calls ++ t.records) front in
     absurd (none_further calls call gives.0.records (subst IsClosed records closed) ends)
 
-pub fed_closed : (told now next : Option Trace) (may_stop : ℕ → Type 0) (items all : List Item) (call : Call) → Continues told items now → IfSome told (λ whole. IsClosed whole.records) → end_the_list items ≡ true → Gives now next (Ok (Some call)) → all ≡ items ++ Mark (Torn TextAfterFinalize) ∷ [] → IsFed told may_stop all
-fed_closed told now next may_stop items all call c closed ends gives is =
+pub fed_closed : (told now next : Option Trace) (may_answer : ℕ → Bool → Type 0) (items all : List Item) (call : Call) → Continues told items now → IfSome told (λ whole. IsClosed whole.records) → end_the_list items ≡ true → Gives now next (Ok (Some call)) → all ≡ items ++ Mark (Torn TextAfterFinalize) ∷ [] → AreAsked may_answer (length items + 1) → IsFed told may_answer all
+fed_closed told now next may_answer items all call c closed ends gives is asked =
     let last : end_the_list (map Entry c.calls) ≡ true = ap end_the_list (sym c.are) ∙ ends in
-    fed_by told may_stop items all c.calls (Torn TextAfterFinalize) c.are is (no_more told now next c.calls call (Torn TextAfterFinalize) c.goes_on closed last gives) tt
+    fed_by told may_answer items all c.calls (Torn TextAfterFinalize) c.are is (no_more told now next c.calls call (Torn TextAfterFinalize) c.goes_on closed last gives) tt (asked_calls may_answer items c.calls c.are asked)
 
 -- a record is taken while none ended the list
 pub taken_open : (items : List Item) (done taken : Bool) → done ≡ end_the_list items → done ≡ false → taken ≡ not (end_the_list items) → taken ≡ true

@@ -1,5 +1,5 @@
 -- What is read of a rank's source, and put on its feed where it has one, by the source's trace.
-use Rattle.std.specs.Prelude.{◌≡◌, ◌⊎◌, ℕ, ◌-◌, ◌^◌, min, Bool, true, false, ⊤, Option, Some, None, IfSome, Result, Ok, Err, List, [], ◌∷◌, ◌++◌, length, map}
+use Rattle.std.specs.Prelude.{◌≡◌, ◌⊎◌, ℕ, ◌+◌, ◌-◌, ◌^◌, ◌<◌, min, Bool, true, false, ⊤, Option, Some, None, IfSome, Result, Ok, Err, List, [], ◌∷◌, ◌++◌, length, map}
 use Rattle.mpicall.specs.Device.{count_if, one_more}
 use Rattle.mpicall.specs.Trace.{Trace}
 use Rattle.mpicall.specs.declared.call.Call.{Call}
@@ -44,18 +44,28 @@ abbrev pub line_behind : ℕ → ℕ
 line_behind count = min count (2 ^ 32 - 1)
 
 -- where the gate stopped the records, it may do so at the line after them
-abbrev pub StopsAs : (ℕ → Type 0) → List Call → Ending → Type 0
-StopsAs may_stop calls (Torn GateStopped) = may_stop (line_behind (length calls))
-StopsAs may_stop calls end = ⊤
+abbrev pub StopsAs : (ℕ → Bool → Type 0) → List Call → Ending → Type 0
+StopsAs may_answer calls (Torn GateStopped) = may_answer (line_behind (length calls)) false
+StopsAs may_answer calls end = ⊤
+
+-- how often the gate let the source be asked: for each record, and for the end that the source told
+abbrev pub passages : List Call → Ending → ℕ
+passages calls (Torn GateStopped) = length calls
+passages calls end = length calls + 1
+
+-- the gate was asked so often, each time at the next line, and may let all of them pass
+abbrev pub AreAsked : (ℕ → Bool → Type 0) → ℕ → Type 0
+AreAsked may_answer count = (place : ℕ) → place < count → may_answer (line_behind place) true
 
 -- the items are the records of a source with their end mark, by the source's trace where that is known, and
--- by the lines at which the gate may stop the reading
-pub record IsFed (told : Option Trace) (may_stop : ℕ → Type 0) (items : List Item) : Type 0 where
+-- by what the gate may answer at their lines
+pub record IsFed (told : Option Trace) (may_answer : ℕ → Bool → Type 0) (items : List Item) : Type 0 where
   pub calls : List Call
   pub end : Ending
   pub are : items ≡ marked calls end
   pub whole : IfSome told (λ trace. EndsAs trace calls end)
-  pub stopped : StopsAs may_stop calls end
+  pub stopped : StopsAs may_answer calls end
+  pub asked : AreAsked may_answer (passages calls end)
 
 -- the end mark is that of a read that failed
 abbrev pub is_failed_read : Option Ending → Bool

@@ -60,8 +60,8 @@ pub fn next_of<I: Input, G: Gate>(
     gate: &G,
 ) -> Option<Ending>
     requires { ended source.old ≡ None }
-    ensures read { (start : SourceValue I) (items : List Item) → end_the_list items ≡ done → IsReading I.left start source.old items line.old
-        → IsNextRead I.left (G.may_stop gate.now rank) start source.new items line.new into.new result }
+    ensures read { (start : SourceValue I) (items : List Item) → end_the_list items ≡ done → IsReading I.left (G.may_answer gate.now rank) start source.old items line.old
+        → IsNextRead I.left (G.may_answer gate.now rank) start source.new items line.new into.new result }
     ensures going { result ≡ None → done ≡ false }
     ensures fresh { result ≡ None → ended source.new ≡ None }
     ensures sealed { result ≡ Some Sealed → done ≡ true }
@@ -93,7 +93,7 @@ pub fn feed<I: Input, G: Gate>(
     requires nothing_put { sent_by feed ≡ [] }
     ensures name { IfOk result (λ receipt. receipt_ring receipt ≡ feed_ring feed) }
     ensures order { IfOk result (λ receipt. IsFeed (sent_whole receipt)) }
-    ensures fed { IfOk result (λ receipt. IsFed (coming I.left source.old) (G.may_stop gate.now rank) (sent_whole receipt)) }
+    ensures fed { IfOk result (λ receipt. IsFed (coming I.left source.old) (G.may_answer gate.now rank) (sent_whole receipt)) }
     ensures count { CountsReads (I.failures (input_of source.old)) (I.failures (input_of source.new)) result }
 {
     let mut feed = feed;

@@ -1,6 +1,6 @@
 -- What proofs and private contracts cite, in addition to the definitions of `specs/Runs.antt`.
 use Rattle.moves.specs.declared.reading.Reading.{Reading}
-use Rattle.std.specs.Prelude.{◌≡◌, ℕ, ◌+◌, ⊤, Option, Some, None, Result, Ok, Err, List, [], ◌∷◌, map}
+use Rattle.std.specs.Prelude.{◌≡◌, ℕ, Bool, ◌+◌, ⊤, Option, Some, None, Result, Ok, Err, List, [], ◌∷◌, map}
 use Rattle.mpicall.specs.Source.{coming}
 use Rattle.mpicall.specs.declared.source.Source.{Source}
 use Rattle.mpigroup.specs.Groups.{Groups}
@@ -40,14 +40,14 @@ of_close (close.Refused refusal) = Refused refusal
 
 -- each rank's items, from `rank` on, are those of the source at its place, or the mark of a thread that didn't
 -- start alone
-abbrev pub AreFedBy : {I : Type 0} → (I → Option (List ℕ)) → (ℕ → ℕ → Type 0) → ℕ → List (Source I) → List (List Item) → Type 0
-AreFedBy left may_stop rank [] [] = ⊤
-AreFedBy left may_stop rank (source ∷ sources) (items ∷ rest) =
-    IsFedOrNotStarted (coming left source) (may_stop rank) items × AreFedBy left may_stop (rank + 1) sources rest
-AreFedBy left may_stop rank sources items = ⊥
+abbrev pub AreFedBy : {I : Type 0} → (I → Option (List ℕ)) → (ℕ → ℕ → Bool → Type 0) → ℕ → List (Source I) → List (List Item) → Type 0
+AreFedBy left may_answer rank [] [] = ⊤
+AreFedBy left may_answer rank (source ∷ sources) (items ∷ rest) =
+    IsFedOrNotStarted (coming left source) (may_answer rank) items × AreFedBy left may_answer (rank + 1) sources rest
+AreFedBy left may_answer rank sources items = ⊥
 
 -- the outcome is that of items such as are read of these sources, one list a rank
-pub record IsOutcomeOfFeeds {I : Type 0} (left : I → Option (List ℕ)) (may_stop : ℕ → ℕ → Type 0) (sources : List (Source I)) (reading : Reading) (groups : Groups) (outcome : Analysed) : Type 0 where
+pub record IsOutcomeOfFeeds {I : Type 0} (left : I → Option (List ℕ)) (may_answer : ℕ → ℕ → Bool → Type 0) (sources : List (Source I)) (reading : Reading) (groups : Groups) (outcome : Analysed) : Type 0 where
   pub items : List (List Item)
-  pub fed : AreFedBy left may_stop 0 sources items
+  pub fed : AreFedBy left may_answer 0 sources items
   pub over : IsOutcomeOver reading groups (map trace_of_items items) outcome

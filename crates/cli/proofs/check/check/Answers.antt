@@ -31,7 +31,7 @@ returns-in-Err-clause-fault g c =
     (record { is_head = c.in_ok-head.ensures.head; one_a_rank = search rules })
     c.in-Err.ensures.fed
     c.in-Err.ensures.stopped
-    (λ rank line may. may)
+    (λ rank line may. absurd cc)
     (λ texts files_are traces hold. c.in-Err.ensures.refused traces
     (tells_texts g.P.In.Input.left c.in_ok-sources.sources.items (λ file. g.P.Opener.told c.args.opener.now file.now) c.args.files.now texts traces c.in_ok-sources.ensures.told files_are hold)) in
     rw (c.from-in-Err.ensures) says

@@ -14,7 +14,7 @@ pub returns-clause-read : goal.returns-clause-read
 returns-clause-read g c =
     let sources = c.args.sources.items in
     let is : at_turns sources c.args.turns.items ≡ at_turns sources (replicate (length sources) first_turn) = ap (λ turns. at_turns sources turns) c.requires.none_begun in
-    all_read g.I.Input.left (g.G.Gate.may_stop c.args.gate.now) sources (at_turns sources c.args.turns.items) (at_turns c.take_all_turns.new.sources.items c.take_all_turns.new.turns.items) c.args.ledger c.take_all_turns.new.ledger
+    all_read g.I.Input.left (g.G.Gate.may_answer c.args.gate.now) sources (at_turns sources c.args.turns.items) (at_turns c.take_all_turns.new.sources.items c.take_all_turns.new.turns.items) c.args.ledger c.take_all_turns.new.ledger
     (omega (arith, c.requires.one_a_rank, c.args.sources.ok.0)) c.requires.nothing_kept
     (ap (λ (all : List (AtTurn g.row.I.Denot)). map source_of all) is ∙ first_sources sources)
     (subst (λ (all : List (AtTurn g.row.I.Denot)). All (λ turn. IsReady turn) all) (sym is) (first_ready sources c.requires.fresh))

@@ -19,7 +19,7 @@ take_a_turn-requires-clause-ready g c =
 pub loop-rank-preserved : goal.loop-rank-preserved
 loop-rank-preserved g c =
     let left = g.I.Input.left in
-    let may_stop = g.G.Gate.may_stop c.args.gate.now in
+    let may_answer = g.G.Gate.may_answer c.args.gate.now in
     let sources = c.loop-rank.sources.items in
     let turns = c.loop-rank.turns.items in
     let rank = c.loop-rank.rank in
@@ -37,9 +37,9 @@ loop-rank-preserved g c =
     ∙ turns_set sources turns rank c.take_a_turn.new.source c.take_a_turn.new.turn in
     let old = at_turns c.args.sources.now.items c.args.turns.now.items in
     record {
-      later = subst (λ (all : List (AtTurn g.row.I.Denot)). AreLater left may_stop old c.args.ledger.now all c.take_a_turn.new.ledger) (sym one)
-          (are_later_still left may_stop old (at_turns sources turns) (slice_set (at_turns sources turns) rank now) c.args.ledger.now c.loop-rank.ledger c.take_a_turn.new.ledger c.loop-rank.invariant.later
-          (set_later left may_stop (at_turns sources turns) rank rank was now c.loop-rank.ledger c.take_a_turn.new.ledger refl (omega (arith, within, turns_count sources turns same)) read c.take_a_turn.ensures));
+      later = subst (λ (all : List (AtTurn g.row.I.Denot)). AreLater left may_answer old c.args.ledger.now all c.take_a_turn.new.ledger) (sym one)
+          (are_later_still left may_answer old (at_turns sources turns) (slice_set (at_turns sources turns) rank now) c.args.ledger.now c.loop-rank.ledger c.take_a_turn.new.ledger c.loop-rank.invariant.later
+          (set_later left may_answer (at_turns sources turns) rank rank was now c.loop-rank.ledger c.take_a_turn.new.ledger refl (omega (arith, within, turns_count sources turns same)) read c.take_a_turn.ensures));
       sources = c.loop-rank.invariant.sources;
       turns = c.loop-rank.invariant.turns;
     }

@@ -13,15 +13,15 @@ in_threads-collector-requires-clause-nothing_put g c κs within = none_put c.arg
 
 pub close-requires : goal.close-requires
 close-requires g c =
-    close_receipts g.I.Input.left (g.G.Gate.may_stop c.args.gate.now) c.args.sources.items c.in-Ok-open.feeds.items c.in_threads-collector.result.1.items c.in-Ok-open.collector c.in_threads-collector.result.0 c.receipts_of.result.items c.args.reading c.args.head
+    close_receipts g.I.Input.left (g.G.Gate.may_answer c.args.gate.now) c.args.sources.items c.in-Ok-open.feeds.items c.in_threads-collector.result.1.items c.in-Ok-open.collector c.in_threads-collector.result.0 c.receipts_of.result.items c.args.reading c.args.head
     c.in_threads-collector.ensures.fed c.in-Ok-open.ensures.rings c.in_threads-collector.ensures.same c.receipts_of.ensures
 
 pub returns-in-Ok-open-clause-ok : goal.returns-in-Ok-open-clause-ok
 returns-in-Ok-open-clause-ok g c =
-    closes_well g.I.Input.left (g.G.Gate.may_stop c.args.gate.now) c.args.sources.items c.in-Ok-open.feeds.items c.in_threads-collector.result.1.items c.in-Ok-open.collector c.in_threads-collector.result.0 c.receipts_of.result.items c.args.reading c.args.head c.close.result
+    closes_well g.I.Input.left (g.G.Gate.may_answer c.args.gate.now) c.args.sources.items c.in-Ok-open.feeds.items c.in_threads-collector.result.1.items c.in-Ok-open.collector c.in_threads-collector.result.0 c.receipts_of.result.items c.args.reading c.args.head c.close.result
     c.in_threads-collector.ensures.fed c.in-Ok-open.ensures.ranks c.in-Ok-open.ensures.kept c.in_threads-collector.ensures.same c.receipts_of.ensures c.close.ensures.answer
 
 pub returns-in-Ok-open-clause-fault : goal.returns-in-Ok-open-clause-fault
 returns-in-Ok-open-clause-fault g c =
-    closes_refusing g.I.Input.left (g.G.Gate.may_stop c.args.gate.now) c.args.sources.items c.in-Ok-open.feeds.items c.in_threads-collector.result.1.items c.in-Ok-open.collector c.in_threads-collector.result.0 c.receipts_of.result.items c.args.reading c.args.head c.close.result
+    closes_refusing g.I.Input.left (g.G.Gate.may_answer c.args.gate.now) c.args.sources.items c.in-Ok-open.feeds.items c.in_threads-collector.result.1.items c.in-Ok-open.collector c.in_threads-collector.result.0 c.receipts_of.result.items c.args.reading c.args.head c.close.result
     c.in_threads-collector.ensures.fed c.requires.one_a_rank c.in-Ok-open.ensures.ranks c.in-Ok-open.ensures.kept c.in_threads-collector.ensures.same c.receipts_of.ensures c.close.ensures.answer

@@ -23,7 +23,7 @@ loop-preserved g c =
       is_finite = search rules;
       same = search rules;
       fresh = c.in_default.ensures.fresh refl;
-      read = subst (λ items. IsReading g.I.Input.left c.args.source.now c.next_of-end.new.source items c.next_of-end.new.line) (sym put)
+      read = subst (λ items. IsReading g.I.Input.left (g.G.Gate.may_answer c.args.gate.now c.args.rank) c.args.source.now c.next_of-end.new.source items c.next_of-end.new.line) (sym put)
           (c.in_default.ensures.read c.args.source.now (sent_by c.loop.feed) (sym c.is_done-done.ensures) c.loop.invariant.read);
       count = c.in_default.ensures.count ∙ c.loop.invariant.count;
     }

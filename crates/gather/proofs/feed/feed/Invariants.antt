@@ -11,6 +11,6 @@ invariant-loop g l = record {
   is_finite : (goal.iterator-loop g).is_finite l.iterator';
   same : feed_ring l.feed ≡ feed_ring l.fn.feed;
   fresh : ended l.source ≡ None;
-  read : IsReading g.I.Input.left l.fn.source l.source (sent_by l.feed) l.line;
+  read : IsReading g.I.Input.left (g.G.Gate.may_answer l.fn.gate l.fn.rank) l.fn.source l.source (sent_by l.feed) l.line;
   count : g.I.Input.failures (input_of l.source) ≡ g.I.Input.failures (input_of l.fn.source);
 }

@@ -13,9 +13,9 @@ loop-thread-preserved g c =
       threads = search rules;
       threads_len = omega (arith, ap length threads);
       room = search rules;
-      comes = comes_next g.I.Input.left g.G.Gate.may_stop c.args.started.items _ _ c.loop-thread.fed.items _ c.in-Some.thread c.finish.result was.comes threads c.finish.ensures (search rules);
+      comes = comes_next g.I.Input.left g.G.Gate.may_answer c.args.started.items _ _ c.loop-thread.fed.items _ c.in-Some.thread c.finish.result was.comes threads c.finish.ensures (search rules);
     }
 
 pub returns-clause-fed : goal.returns-clause-fed
 returns-clause-fed g c =
-    comes_last g.I.Input.left g.G.Gate.may_stop c.args.started.items (into_iter_items c.loop-thread.thread-iterator) c.loop-thread.fed.items c.loop-thread.invariant.comes (search rules)
+    comes_last g.I.Input.left g.G.Gate.may_answer c.args.started.items (into_iter_items c.loop-thread.thread-iterator) c.loop-thread.fed.items c.loop-thread.invariant.comes (search rules)

@@ -11,5 +11,5 @@ invariant-loop-thread g l = record {
   threads : vec_len l.fed + into_iter_len l.thread-iterator ≡ vec_len l.fn.started;
   threads_len : into_iter_len l.thread-iterator ≡ length (into_iter_items l.thread-iterator);
   room : vec_len l.fn.started ≤ vec_capacity l.fed;
-  comes : Comes g.I.Input.left g.G.Gate.may_stop l.fn.started.items l.fed.items (into_iter_items l.thread-iterator);
+  comes : Comes g.I.Input.left g.G.Gate.may_answer l.fn.started.items l.fed.items (into_iter_items l.thread-iterator);
 }

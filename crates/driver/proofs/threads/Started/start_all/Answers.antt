@@ -25,9 +25,9 @@ loop-source-preserved g c =
       room = search rules;
       fresh = All-rest (λ source. ended source ≡ None) c.in-Some.source _ _ sources was.fresh;
       nothing_put = All-rest (λ feed. sent_by feed ≡ []) c.in-Some-next.feed_end _ _ feeds was.nothing_put;
-      promises = along_next (λ source feed one. Promises g.I.Input.left g.G.Gate.may_stop source feed c.args.gate.now one) c.args.sources.items c.args.feeds.items c.loop-source.started.items _ c.in-Some.source c.in-Some-next.feed_end c.start-thread.result _ _ _ _ was.promises sources feeds c.start-thread.ensures (search rules);
+      promises = along_next (λ source feed one. Promises g.I.Input.left g.G.Gate.may_answer source feed c.args.gate.now one) c.args.sources.items c.args.feeds.items c.loop-source.started.items _ c.in-Some.source c.in-Some-next.feed_end c.start-thread.result _ _ _ _ was.promises sources feeds c.start-thread.ensures (search rules);
     }
 
 pub returns-clause-promises : goal.returns-clause-promises
 returns-clause-promises g c =
-    along_end (λ source feed one. Promises g.I.Input.left g.G.Gate.may_stop source feed c.args.gate.now one) c.args.sources.items c.args.feeds.items c.loop-source.started.items (into_iter_items c.loop-source.source-iterator) (into_iter_items c.loop-source.feeds) c.loop-source.invariant.promises (search rules) (search rules)
+    along_end (λ source feed one. Promises g.I.Input.left g.G.Gate.may_answer source feed c.args.gate.now one) c.args.sources.items c.args.feeds.items c.loop-source.started.items (into_iter_items c.loop-source.source-iterator) (into_iter_items c.loop-source.feeds) c.loop-source.invariant.promises (search rules) (search rules)

@@ -19,5 +19,5 @@ invariant-loop-source g l = record {
   room : vec_len l.fn.sources ≤ vec_capacity l.started;
   fresh : All (λ source. ended source ≡ None) (into_iter_items l.source-iterator);
   nothing_put : All (λ feed. sent_by feed ≡ []) (into_iter_items l.feeds);
-  promises : AlongTo (λ source feed one. Promises g.I.Input.left g.G.Gate.may_stop source feed l.gate one) l.fn.sources.items l.fn.feeds.items l.started.items (into_iter_items l.source-iterator) (into_iter_items l.feeds);
+  promises : AlongTo (λ source feed one. Promises g.I.Input.left g.G.Gate.may_answer source feed l.gate one) l.fn.sources.items l.fn.feeds.items l.started.items (into_iter_items l.source-iterator) (into_iter_items l.feeds);
 }
