@@ -1,6 +1,6 @@
 -- What the items of the ranks' feeds say of the traces that the sources tell.
 use Rattle.moves.specs.declared.reading.Reading.{Reading}
-use Rattle.std.proofs.Common.{◌≡◌, ⊎_elim, ℕ, zero, suc, ◌+◌, ◌<◌, ◌-◌, Bool, true, false, Option, Some, None, Ok, Err, IfOk, IfErr, OnOk, IfSome, unwrap_or, option_and_then, Result, All, List, [], ◌∷◌, ◌++◌, length, map, slice_get, refl, sym, ap, subst, ◌∙◌, arith, append_assoc, append-nil, get_or, inl, inr}
+use Rattle.std.proofs.Common.{◌≡◌, ⊎_elim, ℕ, zero, suc, ◌+◌, ◌<◌, ◌≤◌, ◌-◌, Bool, true, false, Option, Some, None, Ok, Err, IfOk, IfErr, OnOk, IfSome, unwrap_or, option_and_then, Result, All, List, [], ◌∷◌, ◌++◌, length, length-append, map, slice_get, refl, sym, ap, subst, ◌∙◌, arith, append_assoc, append-nil, get_or, inl, inr}
 use Rattle.std.specs.List.{range_with_len}
 use Rattle.std.proofs.lemmas.List.FromFn.{length-range_with_len}
 use Rattle.std.proofs.lemmas.Option.{none-some, slice_get-map, slice_get-get_or, slice_get_within}
@@ -30,7 +30,7 @@ use Rattle.gather.specs.Outcomes.{PlacedFault, fault_of_rank, fault_onward, faul
 use Rattle.gather.specs.Closes.{Closes}
 use Rattle.gather.specs.inner.Closes.{IsOutcomeOver}
 use Rattle.gather.specs.FeedContract.{marked, end_behind, mark_of, Begins, EndsAs, StopsAs, IsFed, line_behind}
-use Rattle.driver.specs.inner.Ranks.{told_by, AcceptsAll, AcceptsRank, HasNoFault, IsLowestRefusal, IsRefusalOf}
+use Rattle.driver.specs.inner.Ranks.{told_by, AcceptsAll, AcceptsRank, HasNoFault, IsLowestRefusal, IsPlacedIn, IsRefusalOf}
 use Rattle.gather.specs.Receipts.{trace_of_items, AreReceiptsOf, missing_from, first_missing, traces_held}
 use Rattle.gather.specs.Collected.{Kept, nothing_kept}
 use Rattle.gather.specs.Collectors.{rings, kept}
@@ -263,6 +263,51 @@ stopped_there groups rank told may_answer items at (inr none) is =
     let e : Some (0, OfSource ThreadNotStarted) ≡ Some (at, OfSource GateStopped) = sym (fault_held groups rank [] (Torn ThreadNotStarted) items none) ∙ is in
     absurd (false≢true (ap gate_at e))
 
+-- what is read of a trace stops within it
+
+whole_within : (trace : Trace) (calls : List Call) → trace.records ≡ calls → length calls ≤ length trace.records
+whole_within trace calls are = let count : length trace.records ≡ length calls = ap (λ (xs : List Call). length xs) are in omega (arith, count)
+
+begins_within : (trace : Trace) (calls : List Call) → Begins calls trace.records → length calls ≤ length trace.records
+begins_within trace calls begins =
+    let count : length trace.records ≡ length calls + length begins.0 = ap (λ (xs : List Call). length xs) begins.1 ∙ length-append calls begins.0 in
+    omega (arith, count)
+
+calls_within : (trace : Trace) (calls : List Call) (end : Ending) → EndsAs trace calls end → length calls ≤ length trace.records
+calls_within trace calls Sealed ends = whole_within trace calls ends.0
+calls_within trace calls (Torn (Line fault)) ends = whole_within trace calls ends.0
+calls_within trace calls (Torn TextAfterFinalize) ends = whole_within trace calls ends.0
+calls_within trace calls (Torn NoFinalize) ends = whole_within trace calls ends.0
+calls_within trace calls (Torn ThreadNotStarted) ends = whole_within trace calls ends.0
+calls_within trace calls (Torn ReadFailed) ends = begins_within trace calls ends
+calls_within trace calls (Torn GateStopped) ends = begins_within trace calls ends
+
+sealed_place : (ends : Bool) (calls : List Call) (at : ℕ) (fault : RankFault) → is_ended calls ≡ ends → fault_of_end Sealed calls ≡ Some (at, fault) → at ≡ length calls
+unfolding place_at
+sealed_place true calls at fault is e = let h : None ≡ Some (at, fault) = rw is at e in absurd cc
+sealed_place false calls at fault is e = let h : Some (length calls, OfSource NoFinalize) ≡ Some (at, fault) = rw is at e in sym (ap place_at h)
+
+end_place : (end : Ending) (calls : List Call) (at : ℕ) (fault : RankFault) → fault_of_end end calls ≡ Some (at, fault) → at ≡ length calls
+unfolding place_at
+end_place Sealed calls at fault e = sealed_place (is_ended calls) calls at fault refl e
+end_place (Torn own) calls at fault e = sym (ap place_at e)
+
+placed_by : (groups : Groups) (rank at : ℕ) (fault : RankFault) (trace : Trace) (may_answer : ℕ → Bool → Type 0) (items : List Item) → IsFedOrNotStarted (Some trace) may_answer items → fault_of_rank groups rank (trace_of_items items) ≡ Some (at, fault) → is_from_outside fault ≡ true → at ≤ length trace.records
+unfolding place_at
+placed_by groups rank at (OfCall fault) trace may_answer items fed is outside = absurd cc
+placed_by groups rank at (OfSource fault) trace may_answer items (inl own) is outside =
+    let here : at ≡ length own.calls = end_place own.end own.calls at (OfSource fault) (source_fault groups rank [] own.calls own.end at fault (sym (fault_held groups rank own.calls own.end items own.are) ∙ is)) in
+    let within : length own.calls ≤ length trace.records = calls_within trace own.calls own.end own.whole in
+    omega (arith, here, within)
+placed_by groups rank at (OfSource fault) trace may_answer items (inr none) is outside =
+    let e : Some (0, OfSource ThreadNotStarted) ≡ Some (at, OfSource fault) = sym (fault_held groups rank [] (Torn ThreadNotStarted) items none) ∙ is in
+    let here : 0 ≡ at = ap place_at e in
+    omega (arith, here)
+
+placed_told : (groups : Groups) (told : Option Trace) (may_answer : ℕ → Bool → Type 0) (items : List Item) (refusal : Refusal) → IsFedOrNotStarted told may_answer items → fault_of_rank groups refusal.rank (trace_of_items items) ≡ Some (refusal.call, refusal.fault) → IfSome told (λ trace. IsPlacedIn trace refusal)
+placed_told groups None may_answer items refusal fed is = tt
+placed_told groups (Some trace) may_answer items refusal fed is = λ outside. placed_by groups refusal.rank refusal.call refusal.fault trace may_answer items fed is outside
+
 -- All ranks.
 
 -- a place of a list, and of the list that a map makes of it
@@ -433,6 +478,10 @@ lowest_refusal left may_answer sources groups refusal one is =
       its_own = subst (λ (n : ℕ). IfSome (told_by left sources n) (λ trace. IsRefusalOf groups refusal.rank trace refusal)) rank
           (subst (λ (told : Option Trace). IfSome told (λ trace. IsRefusalOf groups refusal.rank trace refusal)) (told_here left sources at.place source.0 source.1)
           (own_told groups (coming left source.0) (may_answer (0 + at.place)) (marked at.trace.records at.trace.end) refusal
+          (read_at left may_answer 0 sources is.traces at.place source.0 at.trace is.read source.1 at.there) (read_fault groups refusal.rank at.trace ∙ at.fault)));
+      place = subst (λ (n : ℕ). IfSome (told_by left sources n) (λ trace. IsPlacedIn trace refusal)) rank
+          (subst (λ (told : Option Trace). IfSome told (λ trace. IsPlacedIn trace refusal)) (told_here left sources at.place source.0 source.1)
+          (placed_told groups (coming left source.0) (may_answer (0 + at.place)) (marked at.trace.records at.trace.end) refusal
           (read_at left may_answer 0 sources is.traces at.place source.0 at.trace is.read source.1 at.there) (read_fault groups refusal.rank at.trace ∙ at.fault)));
     }
 

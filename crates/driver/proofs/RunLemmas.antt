@@ -18,7 +18,7 @@ use Rattle.waitgraph.proofs.VerdictLemmas.{hang_tells_of_a_stuck_rank, one_verdi
 use Rattle.moves.proofs.StandLemmas.{no_run_brings_a_stuck_rank_to_its_end, every_maximal_run_ends_at_the_stands}
 use Rattle.gather.specs.Outcomes.{fault_of_rank, refusal_or, refusal_from, refusal_of, recording_of_traces, SomeRankCannotEnd}
 use Rattle.driver.specs.VerdictContract.{Tells, IsVerdictOver, RefusesOver}
-use Rattle.driver.specs.inner.Ranks.{told_by, AcceptsAll, AcceptsRank, LeavesRunReport, NotReported, Reported, RefusesRun, IsRefusalOf}
+use Rattle.driver.specs.inner.Ranks.{told_by, AcceptsAll, AcceptsRank, LeavesRunReport, NotReported, Reported, RefusesRun, IsPlacedIn, IsRefusalOf}
 use Rattle.driver.proofs.HeldLemmas.{found_at, lowest_refusal}
 use Rattle.driver.proofs.ToldLemmas.{read_of_told, to_come_is_read}
 use Rattle.driver.specs.Runs.{RefusesFeeds, StopsWhereAllowed}
@@ -156,6 +156,10 @@ refusal_told : (groups : Groups) (refusal : Refusal) (told : Option Trace) (trac
 refusal_told groups refusal None trace h e = cc
 refusal_told groups refusal (Some t) trace h e = let same : t ≡ trace = cc in subst (λ (s : Trace). IsRefusalOf groups refusal.rank s refusal) same h
 
+placed_at : (refusal : Refusal) (told : Option Trace) (trace : Trace) → IfSome told (λ t. IsPlacedIn t refusal) → told ≡ Some trace → IsPlacedIn trace refusal
+placed_at refusal None trace h e = cc
+placed_at refusal (Some t) trace h e = let same : t ≡ trace = cc in subst (λ (s : Trace). IsPlacedIn s refusal) same h
+
 pub refused_over : {I : Type 0} (left : I → Option (List ℕ)) (groups : Groups) (sources : List (Source I)) (fault : RunFault) (traces : List Trace) → length sources ≡ ranks_of groups → RefusesRun groups (told_by left sources) fault → Tells left sources traces → RefusesOver groups traces fault
 refused_over left groups sources (Refused refusal) traces one refuses tells =
     let count : length sources ≡ length traces = same_length (coming left) sources traces (read_of_told left sources traces tells) in
@@ -169,6 +173,7 @@ refused_over left groups sources (Refused refusal) traces one refuses tells =
       its_own = λ own. told_from groups 0 traces refusal.rank there.0 refusal (omega arith) there.1
           (λ k trace below at. let e : k ≡ 0 + k = omega arith in subst (λ (n : ℕ). fault_of_rank groups n trace ≡ None) e (lower k trace below at))
           (refusal_told groups refusal _ there.0 refuses.its_own (told_at (coming left) sources traces refusal.rank (read_of_told left sources traces tells) ∙ there.1) own);
+      place = λ trace at outside. placed_at refusal _ trace refuses.place (told_at (coming left) sources traces refusal.rank (read_of_told left sources traces tells) ∙ at) outside;
     }
 refused_over left groups sources fault traces one refuses tells = tt
 

@@ -1,7 +1,7 @@
 -- What an answer says of traces, where the sources' inputs know them. These are the words of `run`; what it
 -- rests on speaks of each rank alone, by the words of `Ranks`.
 use Rattle.moves.specs.declared.reading.Reading.{Reading}
-use Rattle.std.specs.Prelude.{◌≡◌, ◌↔◌, ℕ, ◌<◌, Bool, true, false, ⊤, Option, Some, None, List, length, slice_get, All}
+use Rattle.std.specs.Prelude.{◌≡◌, ◌↔◌, ℕ, ◌<◌, ◌≤◌, Bool, true, false, ⊤, Option, Some, None, List, length, slice_get, All}
 use Rattle.std.specs.List.{AllZip}
 use Rattle.mpicall.specs.Lines.{lines_of}
 use Rattle.mpicall.specs.Source.{coming, ended, unread}
@@ -57,11 +57,12 @@ abbrev pub Tells : {I : Type 0} → (I → Option (List ℕ)) → List (Source I
 Tells left sources traces = AllZip (IsToCome left) sources traces
 
 -- the refusal is that of the lowest rank that has a fault over these traces; where its fault comes from outside,
--- no lower rank has one
+-- no lower rank has one, and the rank's trace has all the records before it
 pub record IsRefusalOver (groups : Groups) (traces : List Trace) (refusal : Refusal) : Type 0 where
   pub is_rank : refusal.rank < length traces
   pub lowest : (rank : ℕ) (trace : Trace) → rank < refusal.rank → slice_get traces rank ≡ Some trace → fault_of_rank groups rank trace ≡ None
   pub its_own : is_from_outside refusal.fault ≡ false → refusal_of groups traces ≡ Some refusal
+  pub place : (trace : Trace) → slice_get traces refusal.rank ≡ Some trace → is_from_outside refusal.fault ≡ true → refusal.call ≤ length trace.records
 
 abbrev pub RefusesOver : Groups → List Trace → RunFault → Type 0
 RefusesOver groups traces (Refused refusal) = IsRefusalOver groups traces refusal

@@ -1,5 +1,5 @@
 -- What an answer says of each rank, by the trace of its source, be the others' known or not.
-use Rattle.std.specs.Prelude.{◌≡◌, ℕ, ◌<◌, false, ⊤, Option, None, option_and_then, IfSome, Some, List, length, slice_get}
+use Rattle.std.specs.Prelude.{◌≡◌, ℕ, ◌<◌, ◌≤◌, true, false, ⊤, Option, None, option_and_then, IfSome, Some, List, length, slice_get}
 use Rattle.mpicall.specs.Source.{coming}
 use Rattle.mpicall.specs.declared.source.Source.{Source}
 use Rattle.mpicall.specs.Trace.{Trace}
@@ -22,6 +22,10 @@ use Rattle.gather.specs.declared.fault.RunFault.TheVariants.{Memory, Unproved, R
 abbrev pub IsRefusalOf : Groups → ℕ → Trace → Refusal → Type 0
 IsRefusalOf groups rank trace refusal =
     is_from_outside refusal.fault ≡ false → fault_of_rank groups rank trace ≡ Some (refusal.call, refusal.fault)
+
+-- a fault from outside comes after records of the rank's trace
+abbrev pub IsPlacedIn : Trace → Refusal → Type 0
+IsPlacedIn trace refusal = is_from_outside refusal.fault ≡ true → refusal.call ≤ length trace.records
 
 -- the calls of a rank, by the trace of its source where that is known: all of its records, and no fault
 abbrev pub AcceptsRank : Groups → ℕ → Option Trace → List Call → Type 0
@@ -46,6 +50,7 @@ pub record IsLowestRefusal (groups : Groups) (told : ℕ → Option Trace) (refu
   pub is_rank : refusal.rank < ranks_of groups
   pub lowest : (rank : ℕ) → rank < refusal.rank → HasNoFault groups rank (told rank)
   pub its_own : IfSome (told refusal.rank) (λ trace. IsRefusalOf groups refusal.rank trace refusal)
+  pub place : IfSome (told refusal.rank) (λ trace. IsPlacedIn trace refusal)
 
 abbrev pub RefusesRun : Groups → (ℕ → Option Trace) → RunFault → Type 0
 RefusesRun groups told Memory = ⊤
