@@ -1,6 +1,6 @@
 /* What a rank writes while it runs. An unproved companion of mpiwait, like all of tools/.
  *
- * Each rank has three texts in the folder of the run:
+ * Each rank has four texts in the folder of the run:
  *   journalR  one line for each call, written when it begins; lines beginning with `=` for its results
  *   leftR     how often each call was made that has no line
  *   sitesR    the places in the program from which the calls were made
