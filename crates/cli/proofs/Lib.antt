@@ -6,5 +6,6 @@ pub mod TextLemmas
 pub mod EndLemmas
 pub mod LintLemmas
 pub mod HeadToHeadLemmas
+pub mod InMemoryLemmas
 pub mod JournalLemmas
 pub mod FolderLemmas

@@ -17,4 +17,5 @@ pub mod Argv
 pub mod Lints
 pub mod MemoryFiles
 pub mod HeadToHead
+pub mod InMemory
 pub mod inner

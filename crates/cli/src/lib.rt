@@ -6,7 +6,8 @@
 //! - `program::program` runs it on words that are texts, and gives the status.
 //! - `opener::Opener` is what opens the files that the words name; `opener::Disk` opens those of the machine, and
 //!   `memory_files::MemoryFiles` those in memory, whose texts are known.
-//! - `head_to_head::two_that_send_first` runs it over such files, and says what comes of it.
+//! - `in_memory::program_in_memory` runs it over such files, and says whole how a check ends.
+//! - `head_to_head::two_that_send_first` is one such run.
 //!
 //! What is on both outputs at the end, by the words and by the texts of the files, is the contract of
 //! `program`; that of `argv::run` says the same of some words. The definitions are in `specs/`: `CommandLine` for
@@ -22,6 +23,7 @@ pub mod fault;
 mod folder;
 mod found;
 pub mod head_to_head;
+pub mod in_memory;
 mod journal_folder;
 pub mod limit;
 mod lint;

@@ -5,3 +5,4 @@ pub mod ThreadLemmas
 pub mod TurnLemmas
 pub mod WholeLemmas
 pub mod RunLemmas
+pub mod TextLemmas

@@ -2,7 +2,8 @@
 //!
 //! `run::run` reads one source a rank, all at once and each by a thread of its own, and writes the report of
 //! the run: whether some rank is held, so that it can't reach its end record, whatever way the run goes.
-//! `run::run_by` does the same, or reads the sources by turns in one thread, with no feed between.
+//! `run::run_by` does the same, or reads the sources by turns in one thread, with no feed between. `texts::run_texts`
+//! runs over texts in memory, of which no clause asks whether inputs know their bytes.
 //!
 //! What it promises, as contracts that are proved:
 //!
@@ -20,8 +21,8 @@
 //! each rank. By turns each record goes straight to what a session keeps.
 //!
 //! The definitions are in `specs/`: `VerdictContract` says what an answer says where the inputs know their bytes,
-//! `OutputContract` what was written then, `Runs` what a run answers by what was read. What only proofs and private
-//! contracts cite is in `specs/inner/`, and nobody has to believe it.
+//! `OutputContract` what was written then, `Runs` what a run answers by what was read, `Texts` what it answers over
+//! texts. What only proofs and private contracts cite is in `specs/inner/`, and nobody has to believe it.
 //!
 //! ```text
 //! let head = Head::read(alloc, b"ranks 1\n")?;
@@ -33,6 +34,7 @@
 mod poll;
 mod round_robin;
 pub mod run;
+pub mod texts;
 mod threaded;
 pub mod threads;
 mod turn;

@@ -1,0 +1,37 @@
+//! The program over files and outputs in memory. How a check ends there is said whole: the contract has no premise
+//! about what an opener or an output reports, as that of `program` does.
+
+ghost use Rattle.std.specs.Prelude.{◌≢◌, map};
+ghost use Rattle.mpicall.specs.Devices.{bytes_written};
+ghost use Rattle.cli.specs.InMemory.{ChecksTexts};
+ghost use Rattle.cli.specs.MemoryFiles.{text_on};
+
+use crate::memory_files::{MemoryFile, MemoryFiles};
+use crate::program::program;
+use crate::shown::Screen;
+use crate::status::Status;
+use mpicall::memory::MemoryOutput;
+use std::alloc::Global;
+use std::sync::Wait;
+use std::thread::Threads;
+use std::time::Clock;
+
+/// Does what the words ask for over files in memory. Unless it ends with a fault, as where memory runs out, a check
+/// of files that are there ends by their texts, and writes what these say and nothing else.
+pub fn program_in_memory<R: Threads + Wait + Clock + Sync>(
+    alloc: Global,
+    words: &[&str],
+    files: &[MemoryFile<'_>],
+    rt: &R,
+    out: &mut MemoryOutput,
+    err: &mut MemoryOutput,
+) -> Status
+    ensures { result ≢ Status.Fault → ChecksTexts (text_on files.now) (map (λ word. word.now) words.now) result (bytes_written out.old) (bytes_written out.new) (bytes_written err.old) (bytes_written err.new) }
+{
+    let shelf = MemoryFiles { files };
+    let mut screen = Screen {
+        out: MemoryOutput::new(alloc),
+        is_terminal: false,
+    };
+    program(alloc, words, &shelf, rt, out, err, &mut screen)
+}
