@@ -127,8 +127,9 @@ class Shapes:
         values = {}
         for one in sources:
             for name, block in re.findall(r"^impl[^{]* Model for (\w+)(.*?)^\}", one.text, re.M | re.S):
-                value = re.search(r"ghost Value = \{(.*?)\};", block, re.S)[1]
-                values.setdefault(name, set()).update(one.meant(value))
+                value = re.search(r"ghost Value = \{(.*?)\};", block, re.S)
+                if value:
+                    values.setdefault(name, set()).update(one.meant(value[1]))
             for names in re.findall(r"^pub use ([^;]+);", one.text, re.M):
                 self.exported |= words(names.replace("::", " "))
         item = r"^(pub(?:\([^)]*\))? )?(struct|enum|trait|type) (\w+)(.*?)(?=^[^\s})\]wA-Z#{])"

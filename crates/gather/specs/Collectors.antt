@@ -1,7 +1,6 @@
 -- What contracts see of a collector, and what a step with one rank's feed does.
 use Rattle.mpicall.specs.Names.{Rank}
 use Rattle.std.specs.Prelude.{◌≡◌, ℕ, Bool, false, Option, List, length, map}
-use Rattle.logbook.specs.Pages.{Book}
 use Rattle.moves.specs.Stands.{stands_of}
 use Rattle.rankfeed.specs.Rings.{FeedName, taker_ring}
 use Rattle.rankfeed.specs.declared.answer.Took.{Took}
@@ -57,7 +56,7 @@ abbrev pub published : Collector → List Stands
 published collector = published_by collector.publisher
 
 -- which session's list they are
-abbrev pub list_published : Collector → Book
+abbrev pub list_published : Collector → ℕ
 list_published collector = book_published collector.publisher
 
 -- there are watches to which publications are shown

@@ -93,11 +93,12 @@ impl Collector {
     ghost use Rattle.gather.specs.declared.outcome.CloseFault.TheVariants.{Memory, Unproved};
     ghost use Rattle.rankfeed.specs.declared.ring.Receipt.{Receipt as ReceiptValue};
     ghost use mathlib.Core.List.{IsPrefix};
-    ghost use Rattle.std.specs.Prelude.{List, nat_le, IfOk, OnOk, OnErr};
+    ghost use Rattle.std.specs.Prelude.{List, IfOk, OnOk, OnErr};
     ghost use Rattle.gather.specs.Collectors.{rings, kept, received_from, left_from, Steps, KeepsWhatCame, IsFinished};
     ghost use Rattle.gather.specs.inner.Collectors.{ReceivesFrom};
     ghost use Rattle.gather.specs.Collectors.{published, list_published, has_watches, stands_now, ShowsTheLast, PublishesRuns, TakesNothing, PublishesNothing};
-    ghost use Rattle.watches.specs.Publications.{Publishes, AreRising};
+    ghost use Rattle.watches.specs.Publications.{Publishes, AreRising, last_published};
+    ghost use Rattle.watches.specs.Stands.{IsPassed};
     ghost use Rattle.watches.specs.Watches.{publications_told, list_told, seen_by, list_watched, AnswersBy};
 
     /// The collector of these takers, of which this much is kept, and of what publishes.
@@ -136,11 +137,11 @@ impl Collector {
     }
 
     /// Publishes where the ranks stand now over what is kept, and answers it. Where they stand as they did at
-    /// the last publication, that is answered again. It may wait for a watch that is being read, and takes no
-    /// memory. Without watches the stands are recorded and answered all the same.
+    /// the last publication, that is answered again. It may wait for a watch that is being read, takes no
+    /// memory, and never fails. Without watches the stands are recorded and answered all the same.
     pub fn publish(&mut self, wait: &impl Wait) -> Result<Told, PublishFault>
+        ensures succeeds { OnErr result ⊥ }
         ensures published { OnOk result (Publishes (stands_now self.old) (published self.old) (published self.new)) }
-        ensures fault { OnErr result (published self.new ≡ published self.old) }
         ensures rising { AreRising (published self.new) }
         ensures told { IfOk result (λ told. publications_told told ≡ published self.new) }
         ensures list_told { IfOk result (λ told. list_told told ≡ list_published self.new) }
@@ -155,17 +156,15 @@ impl Collector {
         self.publisher.publish(&stands, wait)
     }
 
-    /// Whether what a watch of this session knows is a prefix of what was published, so that the watch
-    /// answers by a publication of this session. If not, what was published is a prefix of what the watch
-    /// knows.
-    pub fn covers(&self, watch: &Watch) -> bool
+    /// A watch of this session shows what was published: what it has seen begins the publications, so it answers by
+    /// one of them, a state that some run over what is kept passes. That holds at any time; nothing is asked.
+    pub fn published_all_seen(&self, watch: &Watch)
         requires { list_watched watch.now ≡ list_published self.now }
-        ensures value { result ≡ nat_le (length (seen_by watch.now)) (length (published self.now)) }
-        ensures within { result ≡ true → IsPrefix (seen_by watch.now) (published self.now) }
-        ensures answers { result ≡ true → AnswersBy (published self.now) watch.now }
-        ensures beyond { result ≡ false → IsPrefix (published self.now) (seen_by watch.now) }
+        ensures seen { IsPrefix (seen_by watch.now) (published self.now) }
+        ensures answers { AnswersBy (published self.now) watch.now }
+        ensures passed { IfSome (last_published (seen_by watch.now)) (λ stands. IsPassed (kept self.now).reading (kept self.now).groups (kept self.now).recording stands.places) }
     {
-        self.publisher.covers(watch)
+        self.publisher.published_all_seen(watch);
     }
 
     /// Shows nothing to watches from now on, and gives back what they read. It waits for those that are being

@@ -13,7 +13,7 @@
 //!   some rank is stuck.
 //! - `Collector::publish` publishes where the ranks stand over what is kept so far, no rank lower than before, and
 //!   `watch::Watch` reads it: it is passed nothing to wait with, and its answers never fall. Each publication is a
-//!   state that some run over what is kept passes. Where `covers` says yes, a watch answers by one of them.
+//!   state that some run over what is kept passes. A watch answers by one of them, at any time.
 //! - `feed::feed` puts the records of one source on a rank's feed and ends it.
 //!
 //! The definitions are in `specs/`: `Outcomes` says which refusal or verdict some traces have, `Collected` and

@@ -1,6 +1,5 @@
 -- What an update shows: stands that were published, and none lower than before.
 use Rattle.std.specs.Prelude.{◌≡◌, ◌⊎◌, ℕ, Bool, Option, Some, None, List, ⊤}
-use Rattle.logbook.specs.Pages.{Book}
 use Rattle.mpicall.specs.Device.{AppendsBeginning}
 use Rattle.watches.specs.declared.stands.Stands.{Stands}
 use Rattle.watches.specs.Publications.{last_published}
@@ -13,7 +12,7 @@ use Rattle.progress.specs.declared.viewer.Viewer.{Viewer}
 abbrev pub seen : Viewer → List Stands
 seen viewer = seen_by viewer.watch
 
-abbrev pub list_viewed : Viewer → Book
+abbrev pub list_viewed : Viewer → ℕ
 list_viewed viewer = list_watched viewer.watch
 
 -- whether an update takes the place of the last one

@@ -1,12 +1,14 @@
 -- A state that some run over a recording passes is passed by a run over each longer one; and the first publication,
 -- and those that follow it, are passed.
 use Rattle.moves.specs.declared.reading.Reading.{Reading}
-use Rattle.std.proofs.Common.{◌≡◌, ◌⊎◌, ℕ, Some, Result, Ok, Err, OnOk, OnErr, List, [], ◌∷◌, ◌++◌, length, get_or, inl, inr, sym, ◌∙◌, ⊎_elim, arith}
+use Rattle.std.proofs.Common.{◌≡◌, ◌⊎◌, ℕ, zero, suc, Option, Some, None, IfSome, Result, Ok, Err, OnOk, OnErr, All, List, [], ◌∷◌, ◌++◌, length, get_or, slice_get, inl, inr, sym, subst, ◌∙◌, ⊎_elim, arith}
 use Rattle.std.proofs.Math.Logic.{∥∥₁_map}
 use Rattle.std.proofs.lemmas.Grind.{merely}
 use Rattle.std.proofs.lemmas.List.{length-replicate}
 use Rattle.mpigroup.specs.declared.limits.TheConstants.{MOST_RANKS}
-use Rattle.std.proofs.lemmas.List.Elements.{All-push}
+use mathlib.Core.List.{IsPrefix}
+use Rattle.std.proofs.lemmas.Option.{same_Some}
+use Rattle.std.proofs.lemmas.List.Elements.{All-push, All-head, All-tail}
 use Rattle.std.proofs.lemmas.List.FromFn.{fill_by_all}
 use Rattle.mpigroup.specs.Groups.{Groups}
 use Rattle.callstore.specs.Recordings.{Lists, GoesOn}
@@ -16,6 +18,7 @@ use Rattle.moves.specs.Stands.{stands_of}
 use Rattle.moves.proofs.RunLemmas.{get_start, reached_start}
 use Rattle.moves.proofs.StandLemmas.{reached_on, every_maximal_run_ends_at_the_stands}
 use Rattle.watches.specs.Stands.{shown_places, Passes, IsPassed, PassedStatesStayPassed}
+use Rattle.watches.proofs.RisingLemmas.{last_among}
 use Rattle.watches.specs.Publications.{ArePassed, Publishes, at_start, last_published}
 use Rattle.watches.specs.declared.stands.Stands.{Stands}
 
@@ -51,6 +54,21 @@ still_passed reading groups recording answer stands old new are done failed were
     (λ (more : new ≡ old ++ stands ∷ []). rw more (All-push (λ (s : Stands). IsPassed reading groups recording s.places) old stands were (merely (stands_passed reading groups recording stands.places are))))
     (λ (same : new ≡ old). rw same were)
     (either_way answer stands old new done failed)
+
+-- what a watch answers by
+
+has_at : (P : Stands → Type 0) (list : List Stands) (place : ℕ) (stands : Stands) → slice_get list place ≡ Some stands → All P list → P stands
+has_at P [] place stands is all = absurd cc
+has_at P (x ∷ xs) zero stands is all = subst P (same_Some x stands is) (All-head P x xs all)
+has_at P (x ∷ xs) (suc place) stands is all = has_at P xs place stands is (All-tail P x xs all)
+
+one_has : (P : Stands → Type 0) (list : List Stands) (one : Option Stands) → IfSome one (λ stands. (place : ℕ) × (slice_get list place ≡ Some stands)) → All P list → IfSome one P
+one_has P list None at all = tt
+one_has P list (Some stands) at all = has_at P list at.0 stands at.1 all
+
+-- the last of a prefix of what is passed is passed
+pub last_passed : (reading : Reading) (groups : Groups) (recording : Lists) (seen list : List Stands) → IsPrefix seen list → ArePassed reading groups recording list → IfSome (last_published seen) (λ stands. IsPassed reading groups recording stands.places)
+last_passed reading groups recording seen list begins are = one_has (λ (s : Stands). IsPassed reading groups recording s.places) list (last_published seen) (last_among seen list begins) are
 
 -- at the opening
 

@@ -50,6 +50,11 @@ rising_snoc (x ∷ y ∷ ys) e r m =
     let r' = then_of (is_further x.places y.places) (is_rising (y ∷ ys)) r in
     then_is (is_further x.places y.places) (is_rising (y ∷ ys ++ e ∷ [])) r'.0 (rising_snoc (y ∷ ys) e r'.1 m)
 
+pub last_of_snoc : (xs : List Stands) (e : Stands) → last_published (xs ++ e ∷ []) ≡ Some e
+last_of_snoc [] e = refl
+last_of_snoc (x ∷ []) e = refl
+last_of_snoc (x ∷ y ∷ ys) e = last_of_snoc (y ∷ ys) e
+
 passes_to : (x y : Stands) (last : Option Stands) → is_no_lower x.places y.places ≡ true → NeverFalls (Some y) last → NeverFalls (Some x) last
 passes_to x y None p q = tt
 passes_to x y (Some z) p q = no_lower_trans x.places y.places z.places p q

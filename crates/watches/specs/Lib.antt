@@ -1,4 +1,5 @@
 pub mod Stands
+pub mod Stored
 pub mod Publications
 pub mod Published
 pub mod Boards

@@ -1,6 +1,6 @@
 -- The list of publications: what each shows, and how one more is written after it.
 use Rattle.moves.specs.declared.reading.Reading.{Reading}
-use Rattle.std.specs.Prelude.{◌≡◌, ◌⊎◌, Bool, true, false, List, [], ◌∷◌, ◌++◌, replicate, if◌then◌else◌, Option, Some, None, IfSome, All, slice_get}
+use Rattle.std.specs.Prelude.{◌≡◌, ◌≢◌, ◌⊎◌, Bool, true, false, List, [], ◌∷◌, ◌++◌, replicate, if◌then◌else◌, Option, Some, None, IfSome, All, slice_get}
 use Rattle.mpigroup.specs.Groups.{Groups}
 use Rattle.mpigroup.specs.declared.limits.TheConstants.{MOST_RANKS}
 use Rattle.callstore.specs.Recordings.{Lists}
@@ -34,6 +34,13 @@ NeverFalls earlier later = IfSome earlier (λ a. IfSome later (λ b. is_no_lower
 -- the stands are published: they are one more, or they were the last already
 abbrev pub Publishes : Stands → List Stands → List Stands → Type 0
 Publishes stands old new = (new ≡ old ++ stands ∷ []) ⊎ ((new ≡ old) × (last_published old ≡ Some stands))
+
+-- the stands are neither further than the last of the list nor the last again
+pub record IsNoFurther (stands : Stands) (list : List Stands) : Type 0 where
+  pub last : Stands
+  pub is_last : last_published list ≡ Some last
+  pub no_further : is_further last.places stands.places ≡ false
+  pub other : stands ≢ last
 
 -- each is a state that some run over the recording passes
 abbrev pub ArePassed : Reading → Groups → Lists → List Stands → Type 0

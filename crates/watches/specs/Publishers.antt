@@ -1,8 +1,7 @@
 -- What contracts see of what publishes.
-use Rattle.std.specs.Prelude.{◌≡◌, Bool, List, is_some}
+use Rattle.std.specs.Prelude.{◌≡◌, ℕ, Bool, List, is_some}
 use Rattle.std.specs.Option.{ForSome}
 use Rattle.core.specs.Mem.{manually_drop_value}
-use Rattle.logbook.specs.Pages.{Book}
 use Rattle.watches.specs.Boards.{shown}
 use Rattle.watches.specs.Published.{list_known, book_of}
 use Rattle.watches.specs.declared.stands.Stands.{Stands}
@@ -13,7 +12,7 @@ abbrev pub published_by : Publisher → List Stands
 published_by publisher = list_known publisher.last
 
 -- which list they are
-abbrev pub book_published : Publisher → Book
+abbrev pub book_published : Publisher → ℕ
 book_published publisher = book_of publisher.last
 
 -- there are watches, and they are shown what is published

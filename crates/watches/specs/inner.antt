@@ -1,3 +1,4 @@
 -- What nobody has to believe: these definitions are cited by proofs and private contracts alone.
-pub mod Publications
+pub mod Tokens
 pub mod Shown
+pub mod Written

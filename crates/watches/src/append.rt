@@ -1,96 +1,112 @@
 //! How the list of publications is kept, and how one more is written after it.
 //!
-//! The list is nowhere in memory. It is known to proofs alone, by tokens without bytes: who has one knows a
-//! prefix of the list, and two prefixes of one list always agree. One number is shared, how many publications
-//! there are, and it grows in the very step in which the list does.
+//! The list is nowhere in memory. It is known to proofs alone, by tokens without bytes. A `Known` says how the list
+//! begins, and two of one list always agree. The `Pen` of a list has all of it, and is the right to write at its end:
+//! there is one, which can't be copied, so nobody else adds to the list.
 
-ghost use Rattle.std.specs.Prelude.{◌≡◌, ◌+◌, ◌<◌, ◌^◌, [], ◌∷◌, ◌++◌, length, IfSome};
+ghost use Rattle.std.specs.Prelude.{◌≡◌, ℕ, List, [], ◌∷◌, ◌++◌};
+ghost use mathlib.Core.List.{IsPrefix};
+ghost use base.Fraction.{full_share};
+ghost use denote.Sharing.{said, one};
+ghost use Rattle.std.specs.Coded.{coded_list};
+ghost use Rattle.watches.specs.declared.stands.Stands.{Stands as StandsValue};
 ghost use Rattle.watches.specs.Publications.{at_start};
-ghost use Rattle.watches.specs.inner.Publications.{head_of};
+ghost use Rattle.watches.specs.Stored.{stands_coded};
+ghost use Rattle.watches.specs.inner.Tokens.{is_all, begins_so};
 
 use crate::stands::Stands;
-use logbook::{Gain, Offer, Plain, Play, Rule, Seen, Start, Word};
+use std::marker::{Model, PhantomData};
 
-/// The rule of the list: the shared number says how long it is.
-pub struct Listed;
-
-impl Rule<Stands, u64> for Listed {
-    ghost use Rattle.std.specs.Prelude.{[], ◌∷◌};
-    ghost use base.Fml.{ftrue};
-    ghost use Rattle.watches.specs.Publications.{at_start};
-    ghost use Rattle.watches.specs.inner.Publications.{IsLogged};
-
-    ghost holds = { IsLogged };
-
-    ghost first = { at_start ∷ [] };
-
-    ghost hinted = { λ n log. Unit {0} };
-
-    ghost shows = { λ log. [] };
-
-    ghost keeps = { λ names log. ftrue };
-
-    ghost moves = { λ ask before after answer. Unit {0} };
+/// The right to write at the end of a list, all of which is known.
+pub struct Pen {
+    marker: PhantomData<()>,
+    pub ghost name: { ℕ },
+    pub ghost list: { List StandsValue } by { coded_list stands_coded },
 }
 
-/// Who appends gains nothing besides the publication.
-pub struct Nothing;
+impl Model for Pen {
+    ghost also_owns = { λ p. is_all p.name p.list full_share };
 
-impl Gain<Stands, u64> for Nothing {
-    ghost use base.Fml.{ftrue};
-
-    ghost after = { λ names about answer. ftrue };
+    ghost also_shares = { λ p _ κ. one (is_all p.name p.list) κ };
 }
 
-/// The step that writes stands at the end of the list.
-pub struct Appends;
-
-impl Play<Stands, u64> for Appends {
-    ghost use Rattle.watches.specs.inner.Publications.{AppendsOne};
-
-    ghost then = { AppendsOne };
+/// What is known of a list: how it begins.
+pub struct Known {
+    marker: PhantomData<()>,
+    pub ghost name: { ℕ },
+    pub ghost list: { List StandsValue } by { coded_list stands_coded },
 }
 
-impl Plain<Stands, Stands, u64> for Appends {
-    ghost use Rattle.std.specs.Prelude.{None};
+impl Model for Known {
+    ghost also_owns = { λ k. begins_so k.name k.list };
 
-    ghost ask = { λ stands. stands };
-
-    ghost state = { λ stands. None };
+    ghost also_shares = { λ k _ κ. said (begins_so k.name k.list) κ };
 }
 
-/// What is known of the list.
-pub type Known = Seen<Stands, u64, Listed>;
+impl Pen {
+    /// The pen of a new list: the stands 0 everywhere are its first publication.
+    pub(crate) fn begin() -> Pen
+        ensures { result.list ≡ at_start ∷ [] }
+    {
+        Pen {
+            marker: PhantomData,
+        }
+    }
 
-/// The number of publications, which threads share.
-pub type Count = Word<Stands, u64, Listed>;
+    /// Writes stands at the end of the list.
+    pub(crate) fn append(&mut self, _stands: &Stands)
+        ensures { (self.new.name ≡ self.old.name) × (self.new.list ≡ self.old.list ++ _stands.now ∷ []) }
+    {}
 
-/// A new list: the stands 0 everywhere are its first publication.
-pub(crate) fn begin() -> (Count, Known)
-    ensures { (result.0 ≡ head_of result.1.book) × (result.1.log ≡ at_start ∷ []) }
-{
-    let (known, mut first, _second) = Seen::open(Start::alone(), 1, 0);
-    (Word::tracked(1, &mut first), known)
+    /// What is known of the list now.
+    pub(crate) fn known(&self) -> Known
+        ensures { (result.name ≡ self.now.name) × (result.list ≡ self.now.list) }
+    {
+        Known {
+            marker: PhantomData,
+        }
+    }
+
+    /// What anybody knows of the list was written by the pen.
+    pub(crate) fn wrote(&self, _known: &Known)
+        requires { _known.now.name ≡ self.now.name }
+        ensures { IsPrefix _known.now.list self.now.list }
+    {}
 }
 
-/// Writes stands at the end of the list, of which all is known. None where somebody else did so before.
-pub(crate) fn append(count: &Count, known: Known, number: u64, stands: &Stands) -> Option<Known>
-    requires head { count.now ≡ head_of known.book }
-    requires number { number ≡ length known.log }
-    requires room { number + 1 < 2 ^ 64 }
-    ensures { IfSome result (λ k. (k.log ≡ known.log ++ stands.now ∷ []) × (k.book ≡ known.book)) }
-{
-    let mut longer = known;
-    let mut offer: Offer<Stands, u64, Listed, Nothing> = longer.plain::<Nothing, Stands, Appends>(
-        stands,
-    );
-    let mut pen = longer.no_pen();
-    let found = count.compare_exchange::<Appends, Nothing>(
-        number,
-        number + 1,
-        &mut longer,
-        &mut offer,
-        &mut pen,
-    );
-    if found == number { Some(longer) } else { None }
+impl Known {
+    /// The same once more.
+    pub(crate) fn again(&self) -> Known
+        ensures { result ≡ self.now }
+    {
+        Known {
+            marker: PhantomData,
+        }
+    }
+
+    /// What two know of one list begins what both know of it.
+    pub(crate) fn agrees(&self, _other: &Known)
+        requires { _other.now.name ≡ self.now.name }
+        ensures { (both : List StandsValue) × IsPrefix self.now.list both × IsPrefix _other.now.list both }
+    {}
 }
+
+impl Drop for Pen {
+    fn drop(self) {
+        let Self { marker: _ } = self;
+    }
+}
+
+impl Drop for Known {
+    fn drop(self) {
+        let Self { marker: _ } = self;
+    }
+}
+
+unsafe impl Send for Pen {}
+
+unsafe impl Sync for Pen {}
+
+unsafe impl Send for Known {}
+
+unsafe impl Sync for Known {}

@@ -22,9 +22,7 @@ use std::sync::Wait;
 /// Which list a reader knows, if any. No value of it is made.
 pub struct View {
     pub known: u64,
-    pub number: u64,
-    pub log_name: u64,
-    pub cells_name: u64,
+    pub name: u64,
 }
 
 /// The two copies of the board need nothing of each other: a publication is written over the one that no watch

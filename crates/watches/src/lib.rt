@@ -3,9 +3,9 @@
 //! What it promises, as contracts that are proved:
 //!
 //! - `stands::Stands::set` makes a tuple the stands of an analyser's ranks, all of one moment.
-//! - `publisher::Publisher` has the stands that were published so far. `publish` adds those that it is given, none
-//!   lower than before, shows them to all watches and answers them; it may wait for a watch that is being
-//!   read. `covers` says that a watch answers by one of them.
+//! - `publisher::Publisher` has the stands that were published so far. `publish` adds those that it is given if they
+//!   are further, shows them to all watches and answers them; it may wait for a watch that is being read. It alone
+//!   adds to them: `published_all_seen` says that each watch answers by one of them.
 //! - `watch::Watch` answers a rank's stand in the last publication that it saw or was told of. It may not wait, and its
 //!   answers for a rank never fall.
 //!
@@ -21,7 +21,7 @@
 //! publisher.publish(&stands, wait)?;
 //! watches[0].read(0)                      // Ok(Some(1)), and never less from then on
 //! watches[0].read(2)                      // Ok(None): there is no such rank
-//! publisher.covers(&watches[0])           // true
+//! publisher.published_all_seen(&watches[0]); // proves that the watch answers by a publication
 //! publisher.withdraw(wait);
 //! watches[0].read(0)                      // Err(Gone)
 //! ```

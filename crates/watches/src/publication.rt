@@ -4,12 +4,12 @@
 //! publications begins. Two tokens of one list always agree, so of two publications the one with more
 //! before it is the later. Stands that were published last aren't published again.
 
-ghost use Rattle.std.specs.Prelude.{◌≡◌, ◌≤◌, ◌+◌, [], ◌∷◌, ◌++◌, length, nat_le, slice_get, sum, true, false, Some};
+ghost use Rattle.std.specs.Prelude.{◌≡◌, ◌≤◌, ◌+◌, [], ◌∷◌, ◌++◌, length, nat_le, slice_get, sum, true, false, Some, IfSome};
 ghost use mathlib.Core.List.{IsPrefix};
+ghost use Rattle.watches.specs.Stands.{is_further};
 ghost use Rattle.watches.specs.Publications.{at_start, last_published, is_rising};
-ghost use Rattle.watches.specs.inner.Publications.{head_of};
 
-use crate::append::{Count, Known, append};
+use crate::append::{Known, Pen};
 use crate::stands::Stands;
 
 /// Stands that were published, and the list of the publications up to them.
@@ -19,22 +19,23 @@ pub struct Publication {
     /// How many publications there are up to this one.
     number: u64,
     known: Known,
-    ghost counts: { number ≡ length known.log },
-    ghost last: { last_published known.log ≡ Some stands },
-    ghost first: { slice_get known.log 0 ≡ Some at_start },
-    ghost rising: { is_rising known.log ≡ true },
+    ghost counts: { number ≡ length known.list },
+    ghost last: { last_published known.list ≡ Some stands },
+    ghost first: { slice_get known.list 0 ≡ Some at_start },
+    ghost rising: { is_rising known.list ≡ true },
     // Each publication is further than the one before it, so their number doesn't run out.
     ghost few: { number ≤ sum stands.places + 1 },
 }
 
 impl Publication {
     ghost use Rattle.watches.specs.Published.{list_known, book_of};
+    ghost use Rattle.watches.specs.inner.Written.{IsLast};
 
     /// The first one.
     pub(crate) fn first(known: Known) -> Publication
-        requires { known.log ≡ at_start ∷ [] }
+        requires { known.list ≡ at_start ∷ [] }
         ensures list { list_known result ≡ at_start ∷ [] }
-        ensures book { book_of result ≡ known.book }
+        ensures book { book_of result ≡ known.name }
     {
         Publication {
             stands: Stands::at_start(),
@@ -52,6 +53,13 @@ impl Publication {
             number: self.number,
             known: self.known.again(),
         }
+    }
+
+    /// What is known of the list.
+    pub(crate) fn known(&self) -> &Known
+        ensures { result.now ≡ self.now.known }
+    {
+        &self.known
     }
 
     /// The stands that it shows.
@@ -78,8 +86,7 @@ impl Publication {
         ensures within { result ≡ true → IsPrefix (list_known other.now) (list_known self.now) }
         ensures beyond { result ≡ false → IsPrefix (list_known self.now) (list_known other.now) }
     {
-        let mut both = self.known.again();
-        both.learn(&other.known);
+        self.known.agrees(&other.known);
         other.number <= self.number
     }
 
@@ -95,23 +102,23 @@ impl Publication {
         }
     }
 
-    /// Becomes the publication of these stands after this one, which is the last. It answers whether it did;
-    /// where the ranks are no further it stays as it is.
-    pub(crate) fn become_next(&mut self, count: &Count, stands: &Stands) -> bool
-        requires { count.now ≡ head_of (book_of self.old) }
+    /// Becomes the publication of these stands after this one, which is all that the pen wrote. It answers whether
+    /// it did; where the ranks are no further it stays as it is.
+    pub(crate) fn become_next(&mut self, pen: &mut Pen, stands: &Stands) -> bool
+        requires { IsLast pen.old self.old }
+        ensures last { IsLast pen.new self.new }
         ensures yes { result ≡ true → list_known self.new ≡ list_known self.old ++ stands.now ∷ [] }
         ensures no { result ≡ false → self.new ≡ self.old }
+        ensures no_further { result ≡ false → IfSome (last_published (list_known self.old)) (λ last. is_further last.places stands.now.places ≡ false) }
         ensures book { book_of self.new ≡ book_of self.old }
     {
         if !self.stands.is_behind(stands) {
             return false;
         }
-        let Some(known) = append(count, self.known.again(), self.number, stands) else {
-            return false;
-        };
+        pen.append(stands);
         self.stands = *stands;
         self.number += 1;
-        self.known = known;
+        self.known = pen.known();
         true
     }
 }

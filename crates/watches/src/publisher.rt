@@ -10,10 +10,10 @@ ghost use Rattle.core.specs.Mem.{manually_drop_value};
 ghost use Rattle.mpigroup.specs.declared.limits.TheConstants.{MOST_RANKS};
 ghost use Rattle.watches.specs.Boards.{shown};
 ghost use Rattle.watches.specs.Published.{list_known, book_of};
-ghost use Rattle.watches.specs.inner.Publications.{head_of};
+ghost use Rattle.watches.specs.inner.Written.{IsLast};
 ghost use Rattle.watches.specs.Watches.{IsWatchOf};
 
-use crate::append::{Count, begin};
+use crate::append::Pen;
 use crate::board::Board;
 use crate::publication::Publication;
 use crate::stands::Stands;
@@ -36,18 +36,19 @@ pub enum OpenFault {
 /// Why stands weren't published.
 #[derive(Clone, Copy, Debug, PartialEq, Eq, Error)]
 pub enum PublishFault {
-    #[error("memory")]
-    Memory,
+    /// They are no further than those that were published last.
+    #[error("no further")]
+    NoFurther,
 }
 
 /// The publications of a session, and the board that shows the last one. There is a board only where there are
 /// watches. It isn't taken down when this is dropped, since that would wait for the watches.
 #[derive(Drop)]
 pub struct Publisher {
-    count: Count,
+    pen: Pen,
     last: Publication,
     board: Option<ManuallyDrop<Board>>,
-    ghost head: { count ≡ head_of (book_of last) },
+    ghost head: { IsLast pen last },
     ghost shown: { ForSome board (λ board. shown (manually_drop_value board) ≡ last) },
 }
 
@@ -79,10 +80,10 @@ fn watch_all(board: &mut Board, watches: u16, ranks: u16, all: Vec<Watch>) -> Op
 
 impl Publisher {
     ghost use mathlib.Core.List.{IsPrefix};
-    ghost use Rattle.std.specs.Prelude.{◌≢◌, Err, OnOk, OnErr, is_some, true, false, length, nat_le};
+    ghost use Rattle.std.specs.Prelude.{◌≢◌, Err, OnOk, OnErr, is_some, false};
     ghost use Rattle.watches.specs.declared.publisher.OpenFault.TheVariants.{Watch as WatchFault};
     ghost use Rattle.watches.specs.declared.stands.Stands.{Stands as StandsValue};
-    ghost use Rattle.watches.specs.Publications.{at_start, AreRising, Publishes};
+    ghost use Rattle.watches.specs.Publications.{at_start, AreRising, Publishes, IsNoFurther};
     ghost use Rattle.watches.specs.Publishers.{published_by, book_published, is_watched, IsShown};
     ghost use Rattle.watches.specs.Watches.{publications_told, list_told, seen_by, list_watched, AnswersBy};
 
@@ -100,14 +101,14 @@ impl Publisher {
         ensures watches { IfOk result (λ ends. All (IsWatchOf ranks (book_published ends.0) (at_start ∷ [])) ends.1.items) }
         ensures unwatched { watches ≡ 0 → result ≢ Err WatchFault }
     {
-        let (count, known) = begin();
-        let last = Publication::first(known);
+        let pen = Pen::begin();
+        let last = Publication::first(pen.known());
         let Ok(all) = Vec::with_capacity(alloc, usize::from(watches)) else {
             return Err(OpenFault::Memory);
         };
         if watches == 0 {
             let publisher = Publisher {
-                count,
+                pen,
                 last,
                 board: None,
             };
@@ -121,17 +122,19 @@ impl Publisher {
             return Err(OpenFault::Watch);
         };
         let publisher = Publisher {
-            count,
+            pen,
             last,
             board: Some(left_up(board)),
         };
         Ok((publisher, all))
     }
 
-    /// Publishes stands, unless they were published last. It takes no memory.
+    /// Publishes stands, unless they were published last. It takes no memory, and refuses only stands that are neither
+    /// the last nor further.
     pub fn publish(&mut self, stands: &Stands, wait: &impl Wait) -> Result<Told, PublishFault>
         ensures ok { OnOk result (Publishes stands.now (published_by self.old) (published_by self.new)) }
         ensures err { OnErr result (published_by self.new ≡ published_by self.old) }
+        ensures refused { OnErr result (IsNoFurther stands.now (published_by self.old)) }
         ensures rising { AreRising (published_by self.new) }
         ensures told { IfOk result (λ told. publications_told told ≡ published_by self.new) }
         ensures list_told { IfOk result (λ told. list_told told ≡ book_published self.new) }
@@ -142,8 +145,8 @@ impl Publisher {
         if *stands == *self.last.stands() {
             return Ok(Told::of(&self.last));
         }
-        if !self.last.become_next(&self.count, stands) {
-            return Err(PublishFault::Memory);
+        if !self.last.become_next(&mut self.pen, stands) {
+            return Err(PublishFault::NoFurther);
         }
         self.board = match self.board.take() {
             Some(board) => Some(left_up(ManuallyDrop::into_inner(board).show(&self.last, wait))),
@@ -152,16 +155,14 @@ impl Publisher {
         Ok(Told::of(&self.last))
     }
 
-    /// Whether what a watch of these publications knows is a prefix of them, so that the watch answers by one
-    /// of them. If not, they are a prefix of what it knows.
-    pub fn covers(&self, watch: &Watch) -> bool
+    /// A watch of these publications shows what was published: what it has seen begins them, so it answers by one of
+    /// them. That holds at any time; nothing is asked.
+    pub fn published_all_seen(&self, watch: &Watch)
         requires { list_watched watch.now ≡ book_published self.now }
-        ensures value { result ≡ nat_le (length (seen_by watch.now)) (length (published_by self.now)) }
-        ensures within { result ≡ true → IsPrefix (seen_by watch.now) (published_by self.now) }
-        ensures answers { result ≡ true → AnswersBy (published_by self.now) watch.now }
-        ensures beyond { result ≡ false → IsPrefix (published_by self.now) (seen_by watch.now) }
+        ensures seen { IsPrefix (seen_by watch.now) (published_by self.now) }
+        ensures answers { AnswersBy (published_by self.now) watch.now }
     {
-        self.last.covers(watch.known())
+        self.pen.wrote(watch.known().known());
     }
 
     /// Takes the board down. It waits for the watches that still read it.

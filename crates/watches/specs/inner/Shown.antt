@@ -8,11 +8,11 @@ use Rattle.watches.specs.declared.board.View.{View}
 
 -- no list is known
 abbrev pub nobody : View
-nobody = record { known = 0; number = 0; log_name = 0; cells_name = 0 }
+nobody = record { known = 0; name = 0 }
 
 -- the list of a publication
 abbrev pub list_shown : Publication → View
-list_shown p = record { known = 1; number = (book_of p).number; log_name = (book_of p).log_name; cells_name = (book_of p).cells_name }
+list_shown p = record { known = 1; name = book_of p }
 
 -- whoever knows a list knows that of the publication on the board
 abbrev pub KnowOneList : Publication → List View → Type 0

@@ -1,5 +1,4 @@
-use Rattle.std.proofs.Common.{◌≡◌, sym, ap, ◌∙◌}
-use Rattle.logbook.specs.Pages.{Book}
+use Rattle.std.proofs.Common.{◌≡◌, ℕ, sym, ap, ◌∙◌}
 use Rattle.watches.specs.Published.{book_of}
 use Rattle.watches.specs.inner.Shown.{list_shown}
 use Rattle.watches.specs.declared.publication.Publication.{Publication}
@@ -8,7 +7,7 @@ use Rattle.watches.proofs.board.turn.Goals as goal
 
 -- publications of one list have its name
 same_name : (x y : Publication) → book_of y ≡ book_of x → list_shown y ≡ list_shown x
-same_name x y same = ap (λ (b : Book). record { known = 1; number = b.number; log_name = b.log_name; cells_name = b.cells_name }) same
+same_name x y same = ap (λ (name : ℕ). record { known = 1; name = name }) same
 
 pub show_as-requires : goal.show_as-requires
 show_as-requires g c =
