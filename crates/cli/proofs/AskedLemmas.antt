@@ -20,13 +20,13 @@ use Rattle.closing.specs.declared.choice.Choice.{Choice}
 use Rattle.cli.specs.CommandLine.{Answers, CheckRun, Task, closing_of, judging_of, program, run_of, task_in, task_of, with_rules}
 use Rattle.cli.specs.inner.CommandLine.{Names, Says, SaysError}
 
-pub said_where_none : (task : Option Task) (text : Text) (said : CommandLine) → task ≡ None → Says text true said → Names task said
-said_where_none task text (Check head files options progress) none says = absurd says
-said_where_none task text (Lint file) none says = absurd says
-said_where_none task text (Judge folder manner progress) none says = absurd says
-said_where_none task text (Close folder out choice) none says = absurd says
-said_where_none task text (Said told is_told) none says = (none, says.1)
-said_where_none task text NoMemory none says = tt
+pub said_where_none : (task : Option Task) (said : CommandLine) → task ≡ None → Says true said → Names task said
+said_where_none task (Check head files options progress) none says = absurd says
+said_where_none task (Lint file) none says = absurd says
+said_where_none task (Judge folder manner progress) none says = absurd says
+said_where_none task (Close folder out choice) none says = absurd says
+said_where_none task (Said text is_error) none says = (says.0, none, says.1)
+said_where_none task NoMemory none says = tt
 
 pub run_of_some : (head : Text) (files : List (Bor Text)) (options : Options) → 0 < length files →
     run_of (Some head) (Some (map (λ file. file.now) files)) (Some options) ≡ Some (CheckRun head (map (λ file. file.now) files) options)
@@ -92,8 +92,8 @@ answers_named words found (Check head files options progress) is taken names = (
 answers_named words found (Lint file) is taken names = (taken, sym (ap (option_and_then (λ (rows : Text × List Row). task_of rows.0 rows.1)) is) ∙ names)
 answers_named words found (Judge folder manner progress) is taken names = (taken, sym (ap (option_and_then (λ (rows : Text × List Row). task_of rows.0 rows.1)) is) ∙ names)
 answers_named words found (Close folder out choice) is taken names = (taken, sym (ap (option_and_then (λ (rows : Text × List Row). task_of rows.0 rows.1)) is) ∙ names)
-answers_named words found (Said text false) is taken names = let e : false ≡ true = names.1 in cc
-answers_named words found (Said text true) is taken names = inr (taken, sym (ap (option_and_then (λ (rows : Text × List Row). task_of rows.0 rows.1)) is) ∙ names.0)
+answers_named words found (Said text false) is taken names = let e : false ≡ true = names.2 in cc
+answers_named words found (Said text true) is taken names = (names.0, inr (taken, sym (ap (option_and_then (λ (rows : Text × List Row). task_of rows.0 rows.1)) is) ∙ names.1))
 answers_named words found NoMemory is taken names = tt
 
 pub answers_error : (words : List Text) (error : Error) (asked : CommandLine) → HasKind (fault_of program words) error → SaysError (kind_of error) asked → (kind_of error ≡ OutOfMemory → asked ≡ NoMemory) → Answers words asked
@@ -103,10 +103,10 @@ answers_error words error (Judge folder manner progress) has says memory = absur
 answers_error words error (Close folder out choice) has says memory = absurd says
 answers_error words error (Said text false) has says memory = elim has [
   | inl out ↦ let e : Said text false ≡ NoMemory = memory out in cc
-  | inr among ↦ (kind_of error, among, says)
+  | inr among ↦ (says.0, (kind_of error, among, says.1))
 ]
 answers_error words error (Said text true) has says memory = elim has [
   | inl out ↦ let e : Said text true ≡ NoMemory = memory out in cc
-  | inr among ↦ inl (kind_of error, among, says)
+  | inr among ↦ (says.0, inl (kind_of error, among, says.1))
 ]
 answers_error words error NoMemory has says memory = tt

@@ -6,6 +6,7 @@ use Rattle.cli.specs.CommandLine.{Answers}
 use Rattle.cli.specs.ExitContract.{Ends, IsDone, IsFaultOf, IsLeftAt, IsTried, TellsLine}
 use Rattle.cli.specs.Faults.{status_of_fault}
 use Rattle.cli.specs.FaultTexts.{line_of_fault}
+use Rattle.cli.specs.Openings.{Fate}
 use Rattle.cli.specs.Outputs.{Written, Nothing, Whole, Broken, Becomes, FailsToWrite, Tries, Writes}
 use Rattle.cli.specs.inner.Outputs.{LeavesAtFault}
 use Rattle.cli.specs.declared.fault.Fault.{Fault}
@@ -24,13 +25,13 @@ tells_line status.Fault fault out err wants left tried = (left, tried)
 tells_line ended fault out err wants left tried = absurd wants
 
 -- where memory is wanted for a fault's line, that may be told of the same words
-memory_may_be : (told : Text → Option Text) (named : Text → Option Bool) (asked : CommandLine) (fault : Fault) → IsFaultOf told named asked fault → fault ≢ Write → IsFaultOf told named asked Memory
-memory_may_be told named (Check head files options progress) fault is_fault other = tt
-memory_may_be told named (Lint file) fault is_fault other = tt
-memory_may_be told named (Judge folder manner progress) fault is_fault other = tt
-memory_may_be told named (Close folder out choice) fault is_fault other = tt
-memory_may_be told named (Said text is_error) fault is_fault other = absurd (other is_fault.0)
-memory_may_be told named NoMemory fault is_fault other = refl
+memory_may_be : (fate : Text → Fate → Type 0) (told : Text → Option Text) (named : Text → Option Bool) (asked : CommandLine) (fault : Fault) → IsFaultOf fate told named asked fault → fault ≢ Write → IsFaultOf fate told named asked Memory
+memory_may_be fate told named (Check head files options progress) fault is_fault other = tt
+memory_may_be fate told named (Lint file) fault is_fault other = tt
+memory_may_be fate told named (Judge folder manner progress) fault is_fault other = tt
+memory_may_be fate told named (Close folder out choice) fault is_fault other = tt
+memory_may_be fate told named (Said text is_error) fault is_fault other = absurd (other is_fault.0)
+memory_may_be fate told named NoMemory fault is_fault other = refl
 
 module _ {O : Type 0} (written : O → Option Text) (failures : O → ℕ) (old new : O) where
   -- what a fault leaves on standard output
@@ -77,19 +78,19 @@ refused {O} written failures is_done may_end_in old mid new fault (Err (complain
         (write, (line_of_fault fault, subst (λ (o : O). FailsToWrite written failures o new (line_of_fault fault)) same broken.1))
 
 -- a text that was asked for
-pub shown : {O : Type 0} (written : O → Option Text) (failures : O → ℕ) (told : Text → Option Text) (named : Text → Option Bool) (old new : O) (text : String Global) (answer : Result Status Complaint) →
-    Shows written failures old new (string_bytes text) status.Free answer → IsAnswered written failures (IsDone told named (Said text false)) (IsFaultOf told named (Said text false)) old new answer
-shown written failures told named old new text (Ok ended) shows = (Whole (string_bytes text), shows.1, inl (shows.0, refl, refl))
-shown written failures told named old new text (Err (complaint.Usage said)) shows = absurd shows
-shown written failures told named old new text (Err (complaint.Fault fault)) shows = (
+pub shown : {O : Type 0} (written : O → Option Text) (failures : O → ℕ) (fate : Text → Fate → Type 0) (told : Text → Option Text) (named : Text → Option Bool) (old new : O) (text : String Global) (answer : Result Status Complaint) →
+    Shows written failures old new (string_bytes text) status.Free answer → IsAnswered written failures (IsDone told named (Said text false)) (IsFaultOf fate told named (Said text false)) old new answer
+shown written failures fate told named old new text (Ok ended) shows = (Whole (string_bytes text), shows.1, inl (shows.0, refl, refl))
+shown written failures fate told named old new text (Err (complaint.Usage said)) shows = absurd shows
+shown written failures fate told named old new text (Err (complaint.Fault fault)) shows = (
   subst (λ (f : Fault). IsOfError (status_of_fault f)) (sym shows.0) tt,
   (shows.0, refl),
   subst (λ (f : Fault). LeavesAtFault written failures old new f) (sym shows.0) (string_bytes text, shows.1),
 )
 
 -- the end of the program
-module _ {O E : Type 0} (written : O → Option Text) (failures : O → ℕ) (written_errors : E → Option Text) (failed_errors : E → ℕ) (told : Text → Option Text) (named : Text → Option Bool) (old new : O) where
-  pub ends_at_once : (errors errors_after : E) (words : List Text) (asked : CommandLine) (ended : Status) → Answers words asked → IsAnswered written failures (IsDone told named asked) (IsFaultOf told named asked) old new (Ok ended) → errors_after ≡ errors → Ends written failures written_errors failed_errors told named old new errors errors_after words ended
+module _ {O E : Type 0} (written : O → Option Text) (failures : O → ℕ) (written_errors : E → Option Text) (failed_errors : E → ℕ) (fate : Text → Fate → Type 0) (told : Text → Option Text) (named : Text → Option Bool) (old new : O) where
+  pub ends_at_once : (errors errors_after : E) (words : List Text) (asked : CommandLine) (ended : Status) → Answers words asked → IsAnswered written failures (IsDone told named asked) (IsFaultOf fate told named asked) old new (Ok ended) → errors_after ≡ errors → Ends written failures written_errors failed_errors fate told named old new errors errors_after words ended
   ends_at_once errors errors_after words asked ended answers is same = record {
     asked = asked;
     answers = answers;
@@ -100,8 +101,8 @@ module _ {O E : Type 0} (written : O → Option Text) (failures : O → ℕ) (wr
     errors = same;
   }
 
-  ends_in_fault : (errors errors_after : E) (words : List Text) (asked : CommandLine) (ended : Status) (fault : Fault) → Answers words asked → IsOfError (status_of_fault fault) → IsFaultOf told named asked fault → LeavesAtFault written failures old new fault → ended ≡ status_of_fault fault → Tries written_errors failed_errors errors errors_after (line_of_fault fault) →
-      Ends written failures written_errors failed_errors told named old new errors errors_after words ended
+  ends_in_fault : (errors errors_after : E) (words : List Text) (asked : CommandLine) (ended : Status) (fault : Fault) → Answers words asked → IsOfError (status_of_fault fault) → IsFaultOf fate told named asked fault → LeavesAtFault written failures old new fault → ended ≡ status_of_fault fault → Tries written_errors failed_errors errors errors_after (line_of_fault fault) →
+      Ends written failures written_errors failed_errors fate told named old new errors errors_after words ended
   ends_in_fault errors errors_after words asked ended fault answers wants is_fault left is tries =
       let out = of_left written failures old new fault left in
       let err = of_tries written_errors failed_errors errors errors_after (line_of_fault fault) tries in
@@ -115,7 +116,7 @@ module _ {O E : Type 0} (written : O → Option Text) (failures : O → ℕ) (wr
         errors = err.1;
       }
 
-  pub ends_in_complaint : (errors errors_after : E) (words : List Text) (asked : CommandLine) (ended : Status) (complaint : Complaint) → Answers words asked → IsAnswered written failures (IsDone told named asked) (IsFaultOf told named asked) old new (Err complaint) → Complains written_errors failed_errors errors errors_after complaint ended → Ends written failures written_errors failed_errors told named old new errors errors_after words ended
+  pub ends_in_complaint : (errors errors_after : E) (words : List Text) (asked : CommandLine) (ended : Status) (complaint : Complaint) → Answers words asked → IsAnswered written failures (IsDone told named asked) (IsFaultOf fate told named asked) old new (Err complaint) → Complains written_errors failed_errors errors errors_after complaint ended → Ends written failures written_errors failed_errors fate told named old new errors errors_after words ended
   ends_in_complaint errors errors_after words asked ended (complaint.Usage said) answers is complains =
       let err = of_tries written_errors failed_errors errors errors_after _ complains.1 in
       record {
@@ -129,10 +130,10 @@ module _ {O E : Type 0} (written : O → Option Text) (failures : O → ℕ) (wr
       }
   ends_in_complaint errors errors_after words asked ended (complaint.Fault fault) answers is complains = by_case complains.1
     where
-      by_case : (complains.0 ≡ fault) ⊎ ((complains.0 ≡ Memory) × (fault ≢ Write)) → Ends written failures written_errors failed_errors told named old new errors errors_after words ended
+      by_case : (complains.0 ≡ fault) ⊎ ((complains.0 ≡ Memory) × (fault ≢ Write)) → Ends written failures written_errors failed_errors fate told named old new errors errors_after words ended
       by_case (inl same) =
           ends_in_fault errors errors_after words asked ended fault answers is.0 is.1 is.2 (complains.2 ∙ ap status_of_fault same)
           (subst (λ (f : Fault). Tries written_errors failed_errors errors errors_after (line_of_fault f)) same complains.3)
       by_case (inr (memory, other)) =
-          ends_in_fault errors errors_after words asked ended Memory answers tt (memory_may_be told named asked fault is.1 other) (unless_write written failures old new fault other is.2) (complains.2 ∙ ap status_of_fault memory)
+          ends_in_fault errors errors_after words asked ended Memory answers tt (memory_may_be fate told named asked fault is.1 other) (unless_write written failures old new fault other is.2) (complains.2 ∙ ap status_of_fault memory)
           (subst (λ (f : Fault). Tries written_errors failed_errors errors errors_after (line_of_fault f)) memory complains.3)

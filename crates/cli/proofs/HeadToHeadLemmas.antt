@@ -43,6 +43,7 @@ use Rattle.cli.specs.CommandLine.{Answers, CheckRun, CloseJournals, JudgeJournal
 use Rattle.cli.specs.ExitContract.{Ends, EndsBy, EndsInReport}
 use Rattle.cli.specs.Faults.{status_of_fault}
 use Rattle.cli.specs.HeadToHead.{report}
+use Rattle.cli.specs.Openings.{Fate}
 use Rattle.cli.specs.Outputs.{Written, Becomes, Writes}
 use Rattle.cli.specs.Statuses.{status_of_verdict}
 use Rattle.cli.specs.Texts.{IsFaultOfCheck, IsHeadOf}
@@ -160,7 +161,7 @@ pub record Hangs {O E : Type 0} (written : O → Option Text) (failures : O → 
   pub errors : new_errors ≡ old_errors
 
 -- an opener that tells these texts
-module _ (told : Text → Option Text) (named : Text → Option Bool) (is_head : told (codes "head") ≡ Some head) (is_first : told (codes "r0") ≡ Some first) (is_second : told (codes "r1") ≡ Some second) where
+module _ (fate : Text → Fate → Type 0) (told : Text → Option Text) (named : Text → Option Bool) (is_head : told (codes "head") ≡ Some head) (is_first : told (codes "r0") ≡ Some first) (is_second : told (codes "r1") ≡ Some second) where
   texts_told : (files : List (Bor Text)) → map (λ file. file.now) files ≡ codes "r0" ∷ codes "r1" ∷ [] → map (λ file. told file.now) files ≡ map Some (first ∷ second ∷ [])
   texts_told files are =
       of_files told files ∙ ap (map told) are
@@ -174,7 +175,7 @@ module _ (told : Text → Option Text) (named : Text → Option Bool) (is_head :
   groups_read : (path : Text) (other : Groups) → path ≡ codes "head" → IsHeadOf (told path) other → other ≡ groups
   groups_read path other is reads = its_groups other (subst (λ (text : Option Text). IsHeadOf text other) (head_told path is) reads)
 
-  no_fault_told : (path : Text) (files : List (Bor Text)) (fault : Fault) → path ≡ codes "head" → map (λ file. file.now) files ≡ codes "r0" ∷ codes "r1" ∷ [] → IsFaultOfCheck told path files fault → status_of_fault fault ≢ status.Fault → ⊥
+  no_fault_told : (path : Text) (files : List (Bor Text)) (fault : Fault) → path ≡ codes "head" → map (λ file. file.now) files ≡ codes "r0" ∷ codes "r1" ∷ [] → IsFaultOfCheck fate told path files fault → status_of_fault fault ≢ status.Fault → ⊥
   no_fault_told path files (Head fault) is are says other_status =
       let e = sym of_head ∙ subst (λ (text : Option Text). IfSome text (λ bytes. read_head bytes ≡ Err fault)) (head_told path is) says in cc
   no_fault_told path files (FileCount ranks count) is are says other_status =
@@ -223,7 +224,7 @@ module _ (told : Text → Option Text) (named : Text → Option Bool) (is_head :
           errors = subst (Becomes written_errors failed_errors old_errors new_errors) ends.errors errors;
         }
 
-    of_asked : (asked : CommandLine) (out err : Written) → Answers words asked → EndsBy told named asked ended out err → Becomes written failures old new out → Becomes written_errors failed_errors old_errors new_errors err → ended ≢ status.Fault → Hangs written failures old new old_errors new_errors ended
+    of_asked : (asked : CommandLine) (out err : Written) → Answers words asked → EndsBy fate told named asked ended out err → Becomes written failures old new out → Becomes written_errors failed_errors old_errors new_errors err → ended ≢ status.Fault → Hangs written failures old new old_errors new_errors ended
     of_asked (Check path files its progress) out err answers (inl done) output errors other =
         let e : Some (CheckRun path.now (map (λ file. file.now) files.items) its) ≡ Some task = sym answers.1 ∙ asks in
         of_report path.now files.items its out err (ap head_in e) (ap files_in e) (ap options_in e) done output errors
@@ -239,15 +240,15 @@ module _ (told : Text → Option Text) (named : Text → Option Bool) (is_head :
     of_asked (Close folder target choice) out err answers by output errors other =
         let e : Some (CloseJournals folder.now target.now choice) ≡ Some task = sym answers.1 ∙ asks in
         let no : false ≡ true = ap is_check e in cc
-    of_asked (Said text false) out err answers by output errors other = absurd (no_kind answers.0 answers.1)
-    of_asked (Said text true) out err (inl found) by output errors other = absurd (no_kind found.0 found.1)
-    of_asked (Said text true) out err (inr none) by output errors other = let e : None ≡ Some task = sym none.1 ∙ asks in cc
+    of_asked (Said text false) out err (some, (kind, among, is)) by output errors other = absurd (no_kind kind among)
+    of_asked (Said text true) out err (some, inl found) by output errors other = absurd (no_kind found.0 found.1)
+    of_asked (Said text true) out err (some, inr none) by output errors other = let e : None ≡ Some task = sym none.1 ∙ asks in cc
     of_asked NoMemory out err answers (inl done) output errors other = absurd done
     of_asked NoMemory out err answers (inr (fault, is, ends)) output errors other = absurd (other (ends.0 ∙ ap status_of_fault is))
 
 -- the program over them
-pub ends_in_hang : {O E : Type 0} {written : O → Option Text} {failures : O → ℕ} {written_errors : E → Option Text} {failed_errors : E → ℕ} {told : Text → Option Text} {named : Text → Option Bool} {old new : O} {old_errors new_errors : E} {given : List Text} {ended : Status} →
-    Ends written failures written_errors failed_errors told named old new old_errors new_errors given ended → given ≡ words → told (codes "head") ≡ Some head → told (codes "r0") ≡ Some first → told (codes "r1") ≡ Some second → ended ≢ status.Fault →
+pub ends_in_hang : {O E : Type 0} {written : O → Option Text} {failures : O → ℕ} {written_errors : E → Option Text} {failed_errors : E → ℕ} {fate : Text → Fate → Type 0} {told : Text → Option Text} {named : Text → Option Bool} {old new : O} {old_errors new_errors : E} {given : List Text} {ended : Status} →
+    Ends written failures written_errors failed_errors fate told named old new old_errors new_errors given ended → given ≡ words → told (codes "head") ≡ Some head → told (codes "r0") ≡ Some first → told (codes "r1") ≡ Some second → ended ≢ status.Fault →
     Hangs written failures old new old_errors new_errors ended
-ends_in_hang {written = written} {failures = failures} {written_errors = written_errors} {failed_errors = failed_errors} {told = told} {named = named} {old = old} {new = new} {old_errors = old_errors} {new_errors = new_errors} {ended = ended} ends are is_head is_first is_second other =
-    of_asked told named is_head is_first is_second written failures written_errors failed_errors old new old_errors new_errors ended ends.asked ends.out ends.err (subst (λ (w : List Text). Answers w ends.asked) are ends.answers) ends.by ends.output ends.errors other
+ends_in_hang {written = written} {failures = failures} {written_errors = written_errors} {failed_errors = failed_errors} {fate = fate} {told = told} {named = named} {old = old} {new = new} {old_errors = old_errors} {new_errors = new_errors} {ended = ended} ends are is_head is_first is_second other =
+    of_asked fate told named is_head is_first is_second written failures written_errors failed_errors old new old_errors new_errors ended ends.asked ends.out ends.err (subst (λ (w : List Text). Answers w ends.asked) are ends.answers) ends.by ends.output ends.errors other

@@ -21,6 +21,7 @@ use Rattle.cli.specs.ExitContract.{Ends, EndsBy, EndsInFault, EndsInReport, IsTr
 use Rattle.cli.specs.FaultTexts.{line_of_fault}
 use Rattle.cli.specs.Faults.{status_of_fault}
 use Rattle.cli.specs.InMemory.{ChecksTexts, EndsCheck, IsTriedOn}
+use Rattle.cli.specs.Openings.{Fate}
 use Rattle.cli.specs.Outputs.{Written, Nothing, Whole, Broken, Becomes}
 use Rattle.cli.specs.Texts.{IsFaultOfCheck, IsHeadOf}
 use Rattle.cli.specs.declared.options.Options.{Options}
@@ -86,7 +87,7 @@ no_refusal : (answer : Option Refusal) (a : Refusal) → answer ≡ Some a → a
 no_refusal answer a p q = let e : Some a ≡ None = sym p ∙ q in cc
 
 -- a check of files with these texts
-module _ (told : Text → Option Text) (options : Options) (head : Text) (files : List Text) (text : Text) (texts : List Text) (is_head : told head ≡ Some text) (are : map told files ≡ map Some texts)
+module _ (fate : Text → Fate → Type 0) (told : Text → Option Text) (options : Options) (head : Text) (files : List Text) (text : Text) (texts : List Text) (is_head : told head ≡ Some text) (are : map told files ≡ map Some texts)
     (failures : MemoryOutput → ℕ) (old new old_errors new_errors : MemoryOutput) (ended : Status) (out err : Written) (output : Becomes into_memory failures old new out) (errors : Becomes into_memory failures old_errors new_errors err) where
   abbrev Checked : Type 0
   Checked = EndsCheck options text texts ended (bytes_written old) (bytes_written new) (bytes_written old_errors) (bytes_written new_errors)
@@ -129,7 +130,7 @@ module _ (told : Text → Option Text) (options : Options) (head : Text) (files 
         );
       }
 
-  by_fault : (path : Text) (given : List (Bor Text)) (fault : Fault) → path ≡ head → map (λ file. file.now) given ≡ files → IsFaultOfCheck told path given fault → EndsInFault fault ended out err → ended ≢ status.Fault → Checked
+  by_fault : (path : Text) (given : List (Bor Text)) (fault : Fault) → path ≡ head → map (λ file. file.now) given ≡ files → IsFaultOfCheck fate told path given fault → EndsInFault fault ended out err → ended ≢ status.Fault → Checked
   by_fault path given (Head fault) same those says ends other =
       let is : read_head text ≡ Err fault = subst (λ (t : Option Text). IfSome t (λ bytes. read_head bytes ≡ Err fault)) (head_told path same) says in
       let tells = subst (λ (s : Status). TellsLine s (Head fault) out err) ends.0 ends.1 in
@@ -191,7 +192,7 @@ module _ (told : Text → Option Text) (options : Options) (head : Text) (files 
     no_kind : (kind : ErrorKind) → IsAmong kind (fault_of program words) → ⊥
     no_kind kind among = subst (λ (kinds : Kinds). IsAmong kind kinds) asks.0 among
 
-    by_asked : (asked : CommandLine) → Answers words asked → EndsBy told named asked ended out err → ended ≢ status.Fault → Checked
+    by_asked : (asked : CommandLine) → Answers words asked → EndsBy fate told named asked ended out err → ended ≢ status.Fault → Checked
     by_asked (Check path given its progress) answers (inl done) other =
         let e : Some (CheckRun path.now (map (λ file. file.now) given.items) its) ≡ Some task = sym answers.1 ∙ asks.1 in
         by_report path.now given.items its (ap head_in e) (ap files_in e) (ap (options_in options) e) done
@@ -207,14 +208,14 @@ module _ (told : Text → Option Text) (options : Options) (head : Text) (files 
     by_asked (Close folder target choice) answers by other =
         let e : Some (CloseJournals folder.now target.now choice) ≡ Some task = sym answers.1 ∙ asks.1 in
         let no : false ≡ true = ap is_check e in cc
-    by_asked (Said said false) answers by other = absurd (no_kind answers.0 answers.1)
-    by_asked (Said said true) (inl found) by other = absurd (no_kind found.0 found.1)
-    by_asked (Said said true) (inr none) by other = let e : None ≡ Some task = sym none.1 ∙ asks.1 in cc
+    by_asked (Said said false) (some, (kind, among, is)) by other = absurd (no_kind kind among)
+    by_asked (Said said true) (some, inl found) by other = absurd (no_kind found.0 found.1)
+    by_asked (Said said true) (some, inr none) by other = let e : None ≡ Some task = sym none.1 ∙ asks.1 in cc
     by_asked NoMemory answers (inl done) other = absurd done
     by_asked NoMemory answers (inr (fault, is, ends)) other = absurd (other (ends.0 ∙ ap status_of_fault is))
 
-pub checks : (told : Text → Option Text) (named : Text → Option Bool) (failures : MemoryOutput → ℕ) (old new old_errors new_errors : MemoryOutput) (words : List Text) (ended : Status) →
-    Ends into_memory failures into_memory failures told named old new old_errors new_errors words ended → ended ≢ status.Fault →
+pub checks : (fate : Text → Fate → Type 0) (told : Text → Option Text) (named : Text → Option Bool) (failures : MemoryOutput → ℕ) (old new old_errors new_errors : MemoryOutput) (words : List Text) (ended : Status) →
+    Ends into_memory failures into_memory failures fate told named old new old_errors new_errors words ended → ended ≢ status.Fault →
     ChecksTexts told words ended (bytes_written old) (bytes_written new) (bytes_written old_errors) (bytes_written new_errors)
-checks told named failures old new old_errors new_errors words ended ends other head files options text texts asks is_head are =
-    by_asked told options head files text texts is_head are failures old new old_errors new_errors ended ends.out ends.err ends.output ends.errors named words asks ends.asked ends.answers ends.by other
+checks fate told named failures old new old_errors new_errors words ended ends other head files options text texts asks is_head are =
+    by_asked fate told options head files text texts is_head are failures old new old_errors new_errors ended ends.out ends.err ends.output ends.errors named words asks ends.asked ends.answers ends.by other

@@ -3,6 +3,7 @@ pub mod AskedLemmas
 pub mod FrontLemmas
 pub mod TraceLemmas
 pub mod TextLemmas
+pub mod OpeningLemmas
 pub mod EndLemmas
 pub mod LintLemmas
 pub mod HeadToHeadLemmas

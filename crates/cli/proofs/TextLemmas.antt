@@ -22,6 +22,7 @@ use Rattle.cli.specs.Faults.{of_run}
 use Rattle.mpicall.specs.Source.{coming}
 use Rattle.driver.proofs.ToldLemmas.{told_of_read}
 use Rattle.cli.proofs.TraceLemmas.{traces_read}
+use Rattle.cli.specs.Openings.{Fate}
 use Rattle.cli.specs.Texts.{AreTracesOf, IsCounted, IsFaultOfCheck, IsHeadOf, IsRefusalOfRun, IsReportOf}
 use Rattle.cli.specs.inner.Texts.{IsFaultOfFront, IsFaultOfHead}
 use Rattle.cli.specs.declared.fault.Fault.{Fault}
@@ -73,20 +74,20 @@ head_says (Some text) left front answer is of_left says =
     let decided : read_head (take deciding_bytes text) ≡ read_head text = read_head-front text deciding_bytes (omega arith) in
     sym decided ∙ sym (ap read_head of_text) ∙ says
 
-pub fault_says : (told : Text → Option Text) (path : Text) (left : Option Text) (front : Text) (fault : Fault) → left ≡ told path → IsFrontOf left front → IsFaultOfFront front fault → IsFaultOfHead told path fault
-fault_says told path left front (Head fault) is of_left says = head_says (told path) left front (Err fault) is of_left says
-fault_says told path left front Memory is of_left says = tt
-fault_says told path left front fault is_left of_left says = absurd says
+pub fault_says : (fate : Text → Fate → Type 0) (told : Text → Option Text) (path : Text) (left : Option Text) (front : Text) (fault : Fault) → left ≡ told path → IsFrontOf left front → IsFaultOfFront front fault → IsFaultOfHead fate told path fault
+fault_says fate told path left front (Head fault) is of_left says = head_says (told path) left front (Err fault) is of_left says
+fault_says fate told path left front Memory is of_left says = tt
+fault_says fate told path left front fault is_left of_left says = absurd says
 
 -- the faults of a check, by its steps
-module _ (told : Text → Option Text) (head : Text) (files : List (Bor Text)) where
-  by_failure : (refusal : Refusal) (fails : Bool) → IsRefusalOfRun told head files refusal → is_from_outside refusal.fault ≡ fails → IsFaultOfCheck told head files (if fails then Failed refusal else Refused refusal)
+module _ (fate : Text → Fate → Type 0) (told : Text → Option Text) (head : Text) (files : List (Bor Text)) where
+  by_failure : (refusal : Refusal) (fails : Bool) → IsRefusalOfRun told head files refusal → is_from_outside refusal.fault ≡ fails → IsFaultOfCheck fate told head files (if fails then Failed refusal else Refused refusal)
   by_failure refusal true of_run is = (of_run, is)
   by_failure refusal false of_run is = (of_run, is)
 
   -- the fault of a run over the files' sources
   pub run_fault_says : {I : Type 0} (left : I → Option Text) (may_answer : ℕ → ℕ → Bool → Type 0) (sources : List (Source I)) (groups : Groups) (fault : RunFault) →
-      length sources ≡ length files → IsCounted told head files groups → RefusesFeeds left may_answer sources groups fault → StopsWhereAllowed may_answer fault → ((rank line : ℕ) → may_answer rank line false → ⊥) → ((texts : List Text) → map (λ file. told file.now) files ≡ map Some texts → (traces : List Trace) → AreTracesOf texts traces → RefusesOver groups traces fault) → IsFaultOfCheck told head files (of_run fault)
+      length sources ≡ length files → IsCounted told head files groups → RefusesFeeds left may_answer sources groups fault → StopsWhereAllowed may_answer fault → ((rank line : ℕ) → may_answer rank line false → ⊥) → ((texts : List Text) → map (λ file. told file.now) files ≡ map Some texts → (traces : List Trace) → AreTracesOf texts traces → RefusesOver groups traces fault) → IsFaultOfCheck fate told head files (of_run fault)
   run_fault_says left may_answer sources groups run.Memory count counted fed stops never refuses = tt
   run_fault_says left may_answer sources groups (run.Unproved rank) count counted fed stops never refuses = (subst (λ n. rank < n) (sym counted.one_a_rank) fed, (groups, counted))
   run_fault_says left may_answer sources groups run.Write count counted fed stops never refuses = tt

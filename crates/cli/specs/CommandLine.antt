@@ -1,6 +1,6 @@
 -- What a command line asks for, by clap's own definitions: what it makes of words, with
 -- the program's command.
-use Rattle.std.specs.Prelude.{◌≡◌, ◌⊎◌, Bool, true, false, Option, Some, None, List, [], ◌∷◌, codes, map, option_and_then, option_map, bytes_eq, if◌then◌else◌}
+use Rattle.std.specs.Prelude.{◌≡◌, ◌⊎◌, ◌<◌, Bool, true, false, Option, Some, None, List, [], ◌∷◌, codes, length, map, option_and_then, option_map, bytes_eq, string_bytes, if◌then◌else◌}
 use Rattle.clap.specs.Lexer.{usize_max}
 use Rattle.clap.specs.Walk.{Row, Rule, Text, first_of, all_of}
 use Rattle.clap.specs.Simple.{App, new_rule, new_shape, new_app, with_rule, with_subcommand, subcommand_of}
@@ -142,11 +142,11 @@ abbrev pub SaysRightly : List Text → Bool → Type 0
 SaysRightly words true = AreWrong words
 SaysRightly words false = AsksForText words
 
--- the answer has the task for which the words ask, or a text where they ask for none
+-- the answer has the task for which the words ask, or a text where they ask for none, which isn't empty
 abbrev pub Answers : List Text → CommandLine → Type 0
 Answers words (Check head files options progress) = Asks words (CheckRun head.now (map (λ file. file.now) files.items) options)
 Answers words (Lint file) = Asks words (LintTrace file.now)
 Answers words (Judge folder manner progress) = Asks words (JudgeJournals folder.now manner)
 Answers words (Close folder out choice) = Asks words (CloseJournals folder.now out.now choice)
-Answers words (Said text is_error) = SaysRightly words is_error
+Answers words (Said text is_error) = (0 < length (string_bytes text)) × SaysRightly words is_error
 Answers words NoMemory = Unit {0}

@@ -9,6 +9,7 @@ use Rattle.cli.specs.Outputs.{Written, Nothing, Whole, Broken, Becomes, lint_rep
 use Rattle.cli.specs.JournalFolders.{known_in}
 use Rattle.cli.specs.Journals.{IsFaultOfClose, IsFaultOfJudge}
 use Rattle.cli.specs.Lints.{IsCountOf, IsFaultOfLint}
+use Rattle.cli.specs.Openings.{Fate}
 use Rattle.cli.specs.Statuses.{status_of_verdict}
 use Rattle.cli.specs.Texts.{IsFaultOfCheck, IsReportOf, IsVerdictOfTexts}
 use Rattle.judging.specs.JournalTexts.{Known}
@@ -98,27 +99,27 @@ IsDone told named (Said text true) = EndsInUsage (string_bytes text)
 IsDone told named NoMemory = λ status out err. ⊥
 
 -- the faults with which that may end
-abbrev pub IsFaultOf : (Text → Option Text) → (Text → Option Bool) → CommandLine → FaultOf → Type 0
-IsFaultOf told named (Check head files options progress) fault = IsFaultOfCheck told head.now files.items fault
-IsFaultOf told named (Lint file) fault = IsFaultOfLint told file.now fault
-IsFaultOf told named (Judge folder manner progress) fault = IsFaultOfJudge (known_in told named folder.now) manner.choice folder.now fault
-IsFaultOf told named (Close folder out choice) fault = IsFaultOfClose (known_in told named folder.now) folder.now out.now fault
-IsFaultOf told named (Said text is_error) fault = (fault ≡ Write) × (is_error ≡ false)
-IsFaultOf told named NoMemory fault = fault ≡ Memory
+abbrev pub IsFaultOf : (Text → Fate → Type 0) → (Text → Option Text) → (Text → Option Bool) → CommandLine → FaultOf → Type 0
+IsFaultOf fate told named (Check head files options progress) fault = IsFaultOfCheck fate told head.now files.items fault
+IsFaultOf fate told named (Lint file) fault = IsFaultOfLint told file.now fault
+IsFaultOf fate told named (Judge folder manner progress) fault = IsFaultOfJudge (known_in told named folder.now) manner.choice folder.now fault
+IsFaultOf fate told named (Close folder out choice) fault = IsFaultOfClose (known_in told named folder.now) folder.now out.now fault
+IsFaultOf fate told named (Said text is_error) fault = (fault ≡ Write) × (is_error ≡ false)
+IsFaultOf fate told named NoMemory fault = fault ≡ Memory
 
 -- what the words ask for was done, or a fault was reported
-abbrev pub EndsBy : (Text → Option Text) → (Text → Option Bool) → CommandLine → Status → Written → Written → Type 0
-EndsBy told named words status out err = IsDone told named words status out err ⊎ ((fault : FaultOf) × IsFaultOf told named words fault × EndsInFault fault status out err)
+abbrev pub EndsBy : (Text → Fate → Type 0) → (Text → Option Text) → (Text → Option Bool) → CommandLine → Status → Written → Written → Type 0
+EndsBy fate told named words status out err = IsDone told named words status out err ⊎ ((fault : FaultOf) × IsFaultOf fate told named words fault × EndsInFault fault status out err)
 
 -- standard output and standard error, each by what was written to it and how many writes failed, and as it was
--- and as it is; the texts of files, and which there are, where that is known
-module _ {O E : Type 0} (written : O → Option Text) (failures : O → ℕ) (written_errors : E → Option Text) (failed_errors : E → ℕ) (told : Text → Option Text) (named : Text → Option Bool) (old new : O) (old_errors new_errors : E) where
+-- and as it is; what may become of files, their texts, and which there are, where that is known
+module _ {O E : Type 0} (written : O → Option Text) (failures : O → ℕ) (written_errors : E → Option Text) (failed_errors : E → ℕ) (fate : Text → Fate → Type 0) (told : Text → Option Text) (named : Text → Option Bool) (old new : O) (old_errors new_errors : E) where
   -- the words ask for something, and the program ends by that
   pub record Ends (words : List Text) (status : Status) : Type 0 where
     pub asked : CommandLine
     pub answers : Answers words asked
     pub out : Written
     pub err : Written
-    pub by : EndsBy told named asked status out err
+    pub by : EndsBy fate told named asked status out err
     pub output : Becomes written failures old new out
     pub errors : Becomes written_errors failed_errors old_errors new_errors err

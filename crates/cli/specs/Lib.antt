@@ -11,6 +11,7 @@ pub mod FaultTexts
 pub mod Outputs
 pub mod JournalFolders
 pub mod ExitContract
+pub mod Openings
 pub mod Texts
 pub mod Journals
 pub mod Argv

@@ -1,7 +1,7 @@
 -- What a check says of the texts of its files.
-use Rattle.std.specs.Prelude.{◌≡◌, ◌≢◌, ◌⊎◌, ◌<◌, ℕ, true, false, Option, Some, None, Ok, Err, IfSome, List, length, map, Contains, ⊤}
+use Rattle.std.specs.Prelude.{◌≡◌, ◌≢◌, ◌⊎◌, ◌<◌, ℕ, true, false, Option, Some, None, Ok, Err, IfSome, List, length, map, slice_get, ⊤}
 use Rattle.std.specs.Borrow.{Bor}
-use Rattle.std.specs.List.{AllZip}
+use Rattle.std.specs.List.{AllWithin, AllZip}
 use Rattle.mpicall.specs.Lines.{lines_of}
 use Rattle.mpicall.specs.Trace.{Trace, IsTraceOf}
 use Rattle.mpicall.specs.declared.fault.SourceFault.TheVariants.{GateStopped}
@@ -11,6 +11,7 @@ use Rattle.waitgraph.specs.declared.verdict.Verdict.{Verdict}
 use Rattle.moves.specs.declared.reading.Reading.{Reading}
 use Rattle.callstore.specs.Recordings.{Lists, IsClosed}
 use Rattle.report.specs.Reports.{IsReport}
+use Rattle.cli.specs.Openings.{Fate, Opened, ReadFailed, Unopened}
 use Rattle.cli.specs.declared.options.Options.{Options}
 use Rattle.gather.specs.Outcomes.{recording_of_traces, refusal_of}
 use Rattle.gather.specs.declared.fault.RankFault.TheVariants.{OfSource}
@@ -77,17 +78,26 @@ pub record IsRefusalOfRun (told : List ℕ → Option (List ℕ)) (head : List �
   pub of_traces : (texts : List (List ℕ)) → map (λ file. told file.now) files ≡ map Some texts →
       (traces : List Trace) → AreTracesOf texts traces → IsRefusalOver groups traces refusal
 
+-- of these files, in their order, this one is the first that can't be opened: each before it was opened
+pub record IsFirstUnopened (fate : List ℕ → Fate → Type 0) (files : List (Bor (List ℕ))) (path : Bor (List ℕ)) : Type 0 where
+  pub place : ℕ
+  pub is_there : slice_get files place ≡ Some path
+  pub unopened : fate path.now Unopened
+  pub before : AllWithin (λ file. fate file.now Opened) files 0 place
+
 -- Which fault a check reports: of the head, before its ranks are counted; of their number, before a file of
--- theirs is opened; of opening these, before one is read; of the run.
-abbrev pub IsFaultOfCheck : (List ℕ → Option (List ℕ)) → List ℕ → List (Bor (List ℕ)) → Fault → Type 0
-IsFaultOfCheck told head files (Open path) =
-    IsUnopened told path.now × ((path.now ≡ head) ⊎ (Contains files path × ((groups : Groups) × IsCounted told head files groups)))
-IsFaultOfCheck told head files ReadHead = ⊤
-IsFaultOfCheck told head files (Head fault) = IfSome (told head) (λ text. read_head text ≡ Err fault)
-IsFaultOfCheck told head files (FileCount ranks count) = IsWrongCount told head ranks count files
-IsFaultOfCheck told head files (Refused refusal) = IsRefusalOfRun told head files refusal × (is_from_outside refusal.fault ≡ false)
-IsFaultOfCheck told head files (Failed refusal) = IsRefusalOfRun told head files refusal × (is_from_outside refusal.fault ≡ true)
-IsFaultOfCheck told head files Memory = ⊤
-IsFaultOfCheck told head files (Unproved rank) = (rank < length files) × ((groups : Groups) × IsCounted told head files groups)
-IsFaultOfCheck told head files Write = ⊤
-IsFaultOfCheck told head files fault = ⊥
+-- theirs is opened; of opening these in their order, before one is read; of the run. `fate` is what may become of
+-- files, and `told` their texts, where they are known.
+abbrev pub IsFaultOfCheck : (List ℕ → Fate → Type 0) → (List ℕ → Option (List ℕ)) → List ℕ → List (Bor (List ℕ)) → Fault → Type 0
+IsFaultOfCheck fate told head files (Open path) =
+    IsUnopened told path.now × (((path.now ≡ head) × fate head Unopened)
+    ⊎ (fate head Opened × IsFirstUnopened fate files path × ((groups : Groups) × IsCounted told head files groups)))
+IsFaultOfCheck fate told head files ReadHead = fate head ReadFailed
+IsFaultOfCheck fate told head files (Head fault) = IfSome (told head) (λ text. read_head text ≡ Err fault)
+IsFaultOfCheck fate told head files (FileCount ranks count) = IsWrongCount told head ranks count files
+IsFaultOfCheck fate told head files (Refused refusal) = IsRefusalOfRun told head files refusal × (is_from_outside refusal.fault ≡ false)
+IsFaultOfCheck fate told head files (Failed refusal) = IsRefusalOfRun told head files refusal × (is_from_outside refusal.fault ≡ true)
+IsFaultOfCheck fate told head files Memory = ⊤
+IsFaultOfCheck fate told head files (Unproved rank) = (rank < length files) × ((groups : Groups) × IsCounted told head files groups)
+IsFaultOfCheck fate told head files Write = ⊤
+IsFaultOfCheck fate told head files fault = ⊥

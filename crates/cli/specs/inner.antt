@@ -2,6 +2,7 @@
 pub mod Answer
 pub mod CommandLine
 pub mod Front
+pub mod Openings
 pub mod Outputs
 pub mod Texts
 pub mod Journals

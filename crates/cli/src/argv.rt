@@ -6,6 +6,7 @@
 ghost use Rattle.std.specs.Prelude.{◌≡◌, IfOk, OnErr, map, string_bytes};
 ghost use Rattle.std.specs.Process.{exit_status};
 ghost use Rattle.cli.specs.Argv.{EndsBySome, EndsGiven, status_in, status_of_words, text_of_words};
+ghost use Rattle.cli.specs.Openings.{fate_of};
 ghost use Rattle.cli.specs.Statuses.{code_of};
 ghost use Rattle.cli.specs.declared.argv.WordsFault.TheVariants.{NoMemory};
 
@@ -118,7 +119,7 @@ where
     E: Output,
     L: Output + Send,
     R: Threads + Wait + Clock + Sync,
-    ensures ended { IfOk result (EndsBySome O.written O.failures E.written E.failures (P.told opener.now) (P.named opener.now) out.old out.new err.old err.new) }
+    ensures ended { IfOk result (EndsBySome O.written O.failures E.written E.failures (fate_of P.In.left P.In.failures (P.may_give opener.now)) (P.told opener.now) (P.named opener.now) out.old out.new err.old err.new) }
     ensures untouched { OnErr result ((out.new ≡ out.old) × (err.new ≡ err.old)) }
 {
     let words = with_files(given.alloc(), opener, words_given(given)?)?;
@@ -144,7 +145,7 @@ where
     E: Output,
     L: Output + Send,
     R: Threads + Wait + Clock + Sync,
-    ensures { EndsGiven O.written O.failures E.written E.failures (P.told opener.now) (P.named opener.now) out.old out.new err.old err.new (status_in result) }
+    ensures { EndsGiven O.written O.failures E.written E.failures (fate_of P.In.left P.In.failures (P.may_give opener.now)) (P.told opener.now) (P.named opener.now) out.old out.new err.old err.new (status_in result) }
 {
     let status = match status_on(given, opener, rt, out, err, screen) {
         Ok(status) => status,

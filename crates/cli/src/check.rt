@@ -8,6 +8,7 @@ ghost use Rattle.mpigroup.specs.HeadText.{read_head};
 ghost use Rattle.driver.specs.VerdictContract.{AreFresh};
 ghost use Rattle.cli.specs.inner.Front.{IsFrontFault, IsFrontOf};
 ghost use Rattle.cli.specs.inner.Outputs.{LeavesAtFault};
+ghost use Rattle.cli.specs.Openings.{Opened, fate_of};
 ghost use Rattle.cli.specs.Texts.{IsFaultOfCheck, IsHeadOf, IsVerdictOfTexts};
 ghost use Rattle.cli.specs.inner.Texts.{IsFaultOfFront, IsFaultOfHead, IsFaultOfOpening, WritesReportOf};
 
@@ -34,7 +35,7 @@ fn read_front<'a, I: Input>(alloc: Global, input: &mut I) -> Result<Vec<u8>, Fau
     ensures front { IfOk result (λ front. IsFrontOf (I.left input.old) front.items) }
     ensures left { IfOk result (λ front. Keeps (I.left input.old) (prepend_known front.items (I.left input.new))) }
     ensures count { OnOk result (I.failures input.new ≡ I.failures input.old) }
-    ensures fault { IfErr result (IsFrontFault (I.failures input.old) (I.failures input.new)) }
+    ensures fault { IfErr result (IsFrontFault I.left I.failures input.old input.new) }
 {
     let mut front = Vec::new(alloc);
     let mut piece = [0; PIECE];
@@ -71,7 +72,8 @@ pub(crate) fn open_head<'a, P: Opener>(
     path: &'a str,
 ) -> Result<Head, Fault<'a>>
     ensures head { IfOk result (IsHeadOf (P.told opener.now path.now)) }
-    ensures fault { IfErr result (IsFaultOfHead (P.told opener.now) path.now) }
+    ensures opened { OnOk result (fate_of P.In.left P.In.failures (P.may_give opener.now) path.now Opened) }
+    ensures fault { IfErr result (IsFaultOfHead (fate_of P.In.left P.In.failures (P.may_give opener.now)) (P.told opener.now) path.now) }
 {
     let Some(mut input) = opener.open_input(path) else {
         return Err(Fault::Open(path));
@@ -89,7 +91,7 @@ fn open_sources<'a, P: Opener>(
     ensures fresh { IfOk result (λ sources. AreFresh sources.items) }
     ensures told { IfOk result (λ sources. map (coming P.In.left) sources.items
         ≡ map (λ path. option_map trace_of (P.told opener.now path.now)) paths.now) }
-    ensures fault { IfErr result (IsFaultOfOpening (P.told opener.now) paths.now) }
+    ensures fault { IfErr result (IsFaultOfOpening (fate_of P.In.left P.In.failures (P.may_give opener.now)) (P.told opener.now) paths.now) }
 {
     let mut sources = Vec::with_capacity(alloc, paths.len())?;
     for path in paths {
@@ -138,8 +140,9 @@ pub fn check<'a, P: Opener, O: Output, T: Tracker, R: Threads + Wait + Sync>(
         map (λ file. P.told opener.now file.now) files.now ≡ map Some texts →
         IsVerdictOfTexts options.reading text texts verdict) }
 
-    // Which fault is reported, by what came before it.
-    ensures fault { IfErr result (IsFaultOfCheck (P.told opener.now) head.now files.now) }
+    // Which fault is reported, by what came before it: a read of the head failed where that is reported, and a file
+    // that isn't opened is the first one.
+    ensures fault { IfErr result (IsFaultOfCheck (fate_of P.In.left P.In.failures (P.may_give opener.now)) (P.told opener.now) head.now files.now) }
 
     ensures written { IfOk result (WritesReportOf O.written out.old out.new options (P.told opener.now head.now) (map (λ file. P.told opener.now file.now) files.now)) }
     ensures no_write_failed { OnOk result (O.failures out.new ≡ O.failures out.old) }

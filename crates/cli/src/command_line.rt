@@ -255,11 +255,11 @@ fn program_command<'a>(alloc: Global) -> Result<Command<'a>, AllocError>
         .subcommand(close)
 }
 
-/// A text as the answer; without memory for it, that.
-fn say<'a>(alloc: Global, text: &str, is_error: bool) -> CommandLine<'a>
-    ensures { Says text.now is_error result }
+/// The usage as the answer; without memory for it, that.
+fn say_usage<'a>(alloc: Global, is_error: bool) -> CommandLine<'a>
+    ensures { Says is_error result }
 {
-    match String::from_str(alloc, text) {
+    match String::from_str(alloc, USAGE) {
         Ok(text) => CommandLine::Said { text, is_error },
         Err(_) => CommandLine::NoMemory,
     }
@@ -272,7 +272,7 @@ fn is_text(kind: ErrorKind) -> bool
     matches!(kind, ErrorKind::DisplayHelp | ErrorKind::DisplayVersion)
 }
 
-/// What clap says instead of an answer.
+/// What clap says instead of an answer. Its contracts say nothing of its texts, so the usage stands in for an empty one.
 fn say_error<'a>(alloc: Global, error: Error) -> CommandLine<'a>
     ensures says { SaysError (kind_of error) result }
     ensures memory { kind_of error ≡ OutOfMemory → result ≡ CommandLine.NoMemory }
@@ -280,11 +280,10 @@ fn say_error<'a>(alloc: Global, error: Error) -> CommandLine<'a>
     if error.kind() == ErrorKind::OutOfMemory {
         return CommandLine::NoMemory;
     }
+    let is_error = !is_text(error.kind());
     match error.to_string(alloc) {
-        Ok(text) => CommandLine::Said {
-            text,
-            is_error: !is_text(error.kind()),
-        },
+        Ok(text) if text.is_empty() => say_usage(alloc, is_error),
+        Ok(text) => CommandLine::Said { text, is_error },
         Err(_) => CommandLine::NoMemory,
     }
 }
@@ -301,16 +300,16 @@ fn run_named<'a>(
     ensures { Names (run_of (option_map (λ path. path.now) head.entry) (option_map (λ paths. map (λ path. path.now) paths.now) files.entry) options) result }
 {
     let Some(head) = head else {
-        return say(alloc, USAGE, true);
+        return say_usage(alloc, true);
     };
     let Some(files) = files else {
-        return say(alloc, USAGE, true);
+        return say_usage(alloc, true);
     };
     if files.is_empty() {
-        return say(alloc, USAGE, true);
+        return say_usage(alloc, true);
     }
     let Some(options) = options else {
-        return say(alloc, USAGE, true);
+        return say_usage(alloc, true);
     };
     match Vec::from_slice(alloc, files) {
         Ok(files) => CommandLine::Check {
@@ -343,7 +342,7 @@ fn trace_named<'a>(alloc: Global, file: Option<&'a str>) -> CommandLine<'a>
 {
     match file {
         Some(file) => CommandLine::Lint { file },
-        None => say(alloc, USAGE, true),
+        None => say_usage(alloc, true),
     }
 }
 
@@ -365,7 +364,7 @@ fn judging_of<'a>(
     ensures { Names (judging_of (option_map (λ path. path.now) folder.entry) manner) result }
 {
     let Some(folder) = folder else {
-        return say(alloc, USAGE, true);
+        return say_usage(alloc, true);
     };
     match manner {
         Some(manner) => CommandLine::Judge {
@@ -373,7 +372,7 @@ fn judging_of<'a>(
             manner,
             progress,
         },
-        None => say(alloc, USAGE, true),
+        None => say_usage(alloc, true),
     }
 }
 
@@ -400,10 +399,10 @@ fn closing_of<'a>(
     ensures { Names (closing_of (option_map (λ path. path.now) folder.entry) (option_map (λ path. path.now) out.entry) choice) result }
 {
     let Some(folder) = folder else {
-        return say(alloc, USAGE, true);
+        return say_usage(alloc, true);
     };
     let Some(out) = out else {
-        return say(alloc, USAGE, true);
+        return say_usage(alloc, true);
     };
     match choice {
         Some(choice) => CommandLine::Close {
@@ -411,7 +410,7 @@ fn closing_of<'a>(
             out,
             choice,
         },
-        None => say(alloc, USAGE, true),
+        None => say_usage(alloc, true),
     }
 }
 
@@ -441,7 +440,7 @@ fn task_of<'a>(alloc: Global, name: &str, matches: &ArgMatches<'a>) -> CommandLi
     } else if name == "close" {
         close_of(alloc, matches)
     } else {
-        say(alloc, USAGE, true)
+        say_usage(alloc, true)
     }
 }
 
@@ -452,7 +451,7 @@ fn asked<'a>(alloc: Global, matches: &ArgMatches<'a>) -> CommandLine<'a>
 {
     match matches.subcommand() {
         Some((name, found)) => task_of(alloc, name, found),
-        None => say(alloc, USAGE, true),
+        None => say_usage(alloc, true),
     }
 }
 

@@ -1,6 +1,7 @@
 //! Files of which it is counted how much was read.
 
-ghost use Rattle.std.specs.Prelude.{◌≡◌};
+ghost use Rattle.std.specs.Prelude.{◌≡◌, option_map};
+ghost use Rattle.cli.specs.inner.Openings.{input_within};
 
 use crate::opener::Opener;
 use mpicall::device::{DeviceFault, Input};
@@ -38,6 +39,8 @@ impl<'p, 'g, P: Opener> Opener for Measured<'p, 'g, P> {
     ghost told = { λ measured path. P.told measured.opener.now path };
 
     ghost named = { λ measured path. P.named measured.opener.now path };
+
+    ghost may_give = { λ measured path answer. P.may_give measured.opener.now path (option_map input_within answer) };
 
     ghost never_waits = { λ measured path. P.never_waits measured.opener.now path };
 

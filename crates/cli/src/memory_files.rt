@@ -1,7 +1,8 @@
 //! Files in memory, whose texts are known.
 
-ghost use Rattle.std.specs.Prelude.{◌≡◌, Some, is_some};
+ghost use Rattle.std.specs.Prelude.{◌≡◌, Some, is_some, option_map};
 ghost use Rattle.std.specs.Option.{option_copied};
+ghost use Rattle.mpicall.specs.Devices.{bytes_left};
 ghost use Rattle.cli.specs.MemoryFiles.{text_on};
 
 use crate::opener::{Maker, Opener};
@@ -40,6 +41,8 @@ impl<'a> Opener for MemoryFiles<'a> {
     ghost told = { λ shelf path. text_on shelf.files.now path };
 
     ghost named = { λ shelf path. Some (is_some (text_on shelf.files.now path)) };
+
+    ghost may_give = { λ shelf path answer. option_map bytes_left answer ≡ text_on shelf.files.now path };
 
     fn open_input(&self, path: &str) -> Option<MemoryInput<'a>> {
         match self.text(path) {

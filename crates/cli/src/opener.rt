@@ -11,8 +11,9 @@ use std::io::Read;
 use std::rt::Files;
 
 /// What opens the inputs that paths name: `told` is the text of the file with a path, where the opener
-/// knows it, `named` whether there is such a file, where that is known, and `never_waits` what is so of a path
-/// of whose file `waits` says that no read waits for another program.
+/// knows it, `named` whether there is such a file, where that is known, `may_give` what it may answer where a path
+/// is to be opened, and `never_waits` what is so of a path of whose file `waits` says that no read waits for
+/// another program.
 pub trait Opener {
     type In: Input + Drop + Send;
 
@@ -20,14 +21,17 @@ pub trait Opener {
 
     ghost named: { Self → List ℕ → Option Bool };
 
-    /// Without a word of its own an opener says nothing.
+    /// Without a word of its own an opener says nothing, here and below.
+    ghost may_give: { Self → List ℕ → Option Self.In → Type 0 } = { λ opener path answer. ⊤ };
+
     ghost never_waits: { Self → List ℕ → Type 0 } = { λ opener path. ⊤ };
 
     /// The input that a path names, from its first byte on; None where it can't be opened. A file whose text is
     /// known can be.
     fn open_input(&self, path: &str) -> Option<Self::In>
         ensures told { IfSome result (λ input. Self.In.left input ≡ told self.now path.now) }
-        ensures untold { IfNone result (told self.now path.now ≡ None) };
+        ensures untold { IfNone result (told self.now path.now ≡ None) }
+        ensures answer { may_give self.now path.now result };
 
     /// Whether a read of the file with a path may wait for another program, as one of a pipe does. The answer
     /// decides how files are read, and nothing of what is said of them.

@@ -9,6 +9,7 @@ ghost use Rattle.cli.specs.JournalFolders.{known_in};
 ghost use Rattle.cli.specs.Journals.{IsFaultOfClose, IsFaultOfJudge};
 ghost use Rattle.cli.specs.inner.Journals.{of_close, of_judge};
 ghost use Rattle.cli.specs.Lints.{IsFaultOfLint};
+ghost use Rattle.cli.specs.Openings.{fate_of};
 ghost use Rattle.cli.specs.Outputs.{Tries};
 ghost use Rattle.cli.specs.Statuses.{status_of_verdict};
 ghost use Rattle.cli.specs.Texts.{IsFaultOfCheck};
@@ -95,7 +96,7 @@ where
     L: Output + Send,
     R: Threads + Wait + Clock + Sync,
     ensures { let told = P.told opener.now in
-        IsAnswered O.written O.failures (EndsInReport options (told head.now) (map (λ file. told file.now) files.now)) (IsFaultOfCheck told head.now files.now) out.old out.new result }
+        IsAnswered O.written O.failures (EndsInReport options (told head.now) (map (λ file. told file.now) files.now)) (IsFaultOfCheck (fate_of P.In.left P.In.failures (P.may_give opener.now)) told head.now files.now) out.old out.new result }
 {
     match check_shown(alloc, head, files, options, opener, rt, out, screen, shown) {
         Ok(verdict) => Ok(status_of(verdict)),
@@ -208,7 +209,7 @@ where
     O: Output,
     L: Output + Send,
     R: Threads + Wait + Clock + Sync,
-    ensures { IsAnswered O.written O.failures (IsDone (P.told opener.now) (P.named opener.now) words.entry) (IsFaultOf (P.told opener.now) (P.named opener.now) words.entry) out.old out.new result }
+    ensures { IsAnswered O.written O.failures (IsDone (P.told opener.now) (P.named opener.now) words.entry) (IsFaultOf (fate_of P.In.left P.In.failures (P.may_give opener.now)) (P.told opener.now) (P.named opener.now) words.entry) out.old out.new result }
 {
     match words {
         CommandLine::Check {
@@ -314,7 +315,7 @@ where
     E: Output,
     L: Output + Send,
     R: Threads + Wait + Clock + Sync,
-    ensures { Ends O.written O.failures E.written E.failures (P.told opener.now) (P.named opener.now) out.old out.new err.old err.new (map (λ word. word.now) words.now) result }
+    ensures { Ends O.written O.failures E.written E.failures (fate_of P.In.left P.In.failures (P.may_give opener.now)) (P.told opener.now) (P.named opener.now) out.old out.new err.old err.new (map (λ word. word.now) words.now) result }
 {
     match answer(alloc, parse(alloc, words), opener, rt, out, screen) {
         Ok(status) => status,

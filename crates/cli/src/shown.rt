@@ -2,6 +2,7 @@
 
 ghost use Rattle.std.specs.Prelude.{◌≡◌, IfSome, is_some};
 ghost use Rattle.cli.specs.JournalFolders.{known_in};
+ghost use Rattle.cli.specs.Openings.{fate_of};
 ghost use Rattle.cli.specs.Shown.{IsMannerFor, is_shown_on};
 ghost use Rattle.cli.specs.inner.Shown.{AnswersCheck, AnswersJudge};
 
@@ -96,7 +97,7 @@ fn check_paths<'a, P: Opener, O: Output, T: Tracker, R: Threads + Wait + Sync>(
     rt: &R,
     out: &mut O,
 ) -> Result<Verdict, Fault<'a>>
-    ensures { AnswersCheck O.written O.failures (P.told opener.now) paths.now.head.now paths.now.files.now options out.old out.new result }
+    ensures { AnswersCheck O.written O.failures (fate_of P.In.left P.In.failures (P.may_give opener.now)) (P.told opener.now) paths.now.head.now paths.now.files.now options out.old out.new result }
 {
     check(
         alloc,
@@ -128,10 +129,10 @@ where
     T: Tracker,
     L: Output + Send,
     R: Threads + Wait + Sync,
-    ensures { AnswersCheck O.written O.failures (P.told opener.now) paths.now.head.now paths.now.files.now options out.old out.new result }
+    ensures { AnswersCheck O.written O.failures (fate_of P.In.left P.In.failures (P.may_give opener.now)) (P.told opener.now) paths.now.head.now paths.now.files.now options out.old out.new result }
 {
     let mut work = || -> Result<Verdict, Fault>
-        ensures { AnswersCheck O.written O.failures (P.told opener.entry.now) paths.entry.now.head.now paths.entry.now.files.now options out.entry.now out.exit.now result }
+        ensures { AnswersCheck O.written O.failures (fate_of P.In.left P.In.failures (P.may_give opener.entry.now)) (P.told opener.entry.now) paths.entry.now.head.now paths.entry.now.files.now options out.entry.now out.exit.now result }
     { check_paths(alloc, paths, options, opener, tracker, rt, out) };
     viewer.during(screen, rt, &mut work)
 }
@@ -153,7 +154,7 @@ where
     O: Output,
     L: Output + Send,
     R: Threads + Wait + Clock + Sync,
-    ensures { AnswersCheck O.written O.failures (P.told opener.now) head.now files.now options out.old out.new result }
+    ensures { AnswersCheck O.written O.failures (fate_of P.In.left P.In.failures (P.may_give opener.now)) (P.told opener.now) head.now files.now options out.old out.new result }
 {
     let paths = Paths { head, files };
     let gauge = Gauge::new();

@@ -1,5 +1,6 @@
 -- The front of a head, which decides what the head says.
 use Rattle.std.specs.Prelude.{◌≡◌, ℕ, Option, IfSome, List, take}
+use Rattle.std.specs.Io.KnownBytes.{Consumes}
 use Rattle.mpicall.specs.Device.{one_more}
 use Rattle.mpigroup.specs.declared.limits.TheConstants.{DECIDING_BYTES}
 use Rattle.cli.specs.declared.fault.Fault.{Fault}
@@ -13,8 +14,9 @@ deciding_bytes = DECIDING_BYTES
 abbrev pub IsFrontOf : Option (List ℕ) → List ℕ → Type 0
 IsFrontOf known front = IfSome known (λ bytes. front ≡ take deciding_bytes bytes)
 
--- a read failed, which the input's count shows, or memory ran out and no read failed
-abbrev pub IsFrontFault : ℕ → ℕ → Fault → Type 0
-IsFrontFault old new ReadHead = new ≡ one_more old
-IsFrontFault old new Memory = new ≡ old
-IsFrontFault old new fault = ⊥
+-- a read failed behind some of the bytes, which the input's count shows, or memory ran out and no read failed
+module _ {I : Type 0} (left : I → Option (List ℕ)) (failures : I → ℕ) (old new : I) where
+  abbrev pub IsFrontFault : Fault → Type 0
+  IsFrontFault ReadHead = ((came : List ℕ) × Consumes (left old) (left new) came) × (failures new ≡ one_more (failures old))
+  IsFrontFault Memory = failures new ≡ failures old
+  IsFrontFault fault = ⊥

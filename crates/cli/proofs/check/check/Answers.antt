@@ -1,6 +1,8 @@
 -- The answer over the sources is that of the files' texts.
 use Rattle.std.proofs.Common.{map, rules, ℕ, List, Bor, ap, sym, ◌∙◌, length}
 use Rattle.std.proofs.lemmas.List.{length-map}
+use Rattle.cli.specs.Openings.{fate_of}
+use Rattle.cli.proofs.OpeningLemmas.{opening_passed}
 use Rattle.cli.proofs.TextLemmas.{head_of_told, report_says, run_fault_says, run_leaves, tells_texts}
 use Rattle.cli.proofs.check.check.Goals as goal
 
@@ -24,9 +26,14 @@ returns-in-Ok-clause-written g c =
       c.in-Ok.ensures.written.2,
     )
 
+pub returns-in_err-sources-clause-fault : goal.returns-in_err-sources-clause-fault
+returns-in_err-sources-clause-fault g c =
+    opening_passed (fate_of g.P.In.Input.left g.P.In.Input.failures (g.P.Opener.may_give c.args.opener.now)) (g.P.Opener.told c.args.opener.now) c.args.head.now c.args.files.now c.in_ok-head.head c.open_sources.result c.from_residual-in_err-sources.result c.in_err-sources.field-0.0
+    c.in_ok-head.ensures.opened (record { is_head = c.in_ok-head.ensures.head; one_a_rank = search rules }) c.open_sources.ensures.fault c.in_err-sources.was (search rules)
+
 pub returns-in-Err-clause-fault : goal.returns-in-Err-clause-fault
 returns-in-Err-clause-fault g c =
-    let says = run_fault_says (g.P.Opener.told c.args.opener.now) c.args.head.now c.args.files.now g.P.In.Input.left _ _ c.in_ok-head.head c.in-Err.fault
+    let says = run_fault_says (fate_of g.P.In.Input.left g.P.In.Input.failures (g.P.Opener.may_give c.args.opener.now)) (g.P.Opener.told c.args.opener.now) c.args.head.now c.args.files.now g.P.In.Input.left _ _ c.in_ok-head.head c.in-Err.fault
     (sym (length-map c.in_ok-sources.sources.items _) ∙ ap length c.in_ok-sources.ensures.told ∙ length-map c.args.files.now _)
     (record { is_head = c.in_ok-head.ensures.head; one_a_rank = search rules })
     c.in-Err.ensures.fed

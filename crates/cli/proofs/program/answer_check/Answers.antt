@@ -1,6 +1,7 @@
 -- A report is on standard output, or the fault is told.
 use Rattle.std.proofs.Common.{ℕ, List, Bor, map, refl, inl}
 use Rattle.cli.specs.ExitContract.{EndsInReport}
+use Rattle.cli.specs.Openings.{fate_of}
 use Rattle.cli.specs.Outputs.{Whole}
 use Rattle.cli.specs.Texts.{IsFaultOfCheck}
 use Rattle.cli.proofs.EndLemmas.{refused}
@@ -24,4 +25,4 @@ returns-in-Ok g c = (
 pub returns-in-Err : goal.returns-in-Err
 returns-in-Err g c =
     let told = g.P.Opener.told c.args.opener.now in
-    refused g.O.Output.written g.O.Output.failures (EndsInReport c.args.options (told c.args.head.now) (map (λ (file : Bor (List ℕ)). told file.now) c.args.files.now)) (IsFaultOfCheck told c.args.head.now c.args.files.now) c.args.out.now c.check_shown.new.out c.refuse.new.out c.in-Err.fault c.refuse.result tt tt c.in-Err.ensures.fault c.in-Err.ensures.output c.refuse.ensures
+    refused g.O.Output.written g.O.Output.failures (EndsInReport c.args.options (told c.args.head.now) (map (λ (file : Bor (List ℕ)). told file.now) c.args.files.now)) (IsFaultOfCheck (fate_of g.P.In.Input.left g.P.In.Input.failures (g.P.Opener.may_give c.args.opener.now)) told c.args.head.now c.args.files.now) c.args.out.now c.check_shown.new.out c.refuse.new.out c.in-Err.fault c.refuse.result tt tt c.in-Err.ensures.fault c.in-Err.ensures.output c.refuse.ensures
