@@ -54,6 +54,10 @@ zipped_same f (x ∷ xs) (y ∷ ys) zero old new e same =
     ap (λ k. k ∷ map f (zip xs ys)) (same x ∙ ap (λ b. f (x, b)) (sym is))
 zipped_same f (x ∷ xs) (y ∷ ys) (suc n) old new e same = ap (λ ks. f (x, y) ∷ ks) (zipped_same f xs ys n old new e same)
 
+-- what stands at one place is one thing
+one_there : {A : Type 0} (xs : List A) (m n : ℕ) (a b : A) → slice_get xs m ≡ Some a → slice_get xs n ≡ Some b → m ≡ n → b ≡ a
+one_there xs m n a b first second same = cc
+
 -- ---- Nothing is changed ----
 
 pub changes_none : (rank : ℕ) (it : RecordingView) → ChangesOnly rank it it
@@ -88,6 +92,9 @@ calls_few it = by_length (cases_lt (length it.records) most_records)
         subst (λ (one : Listed). length one.records ≤ most_records - 1) (sym (cut_long it long)) (taken_count (most_records - 1) it.records) in
         omega (arith, count_of (cut it), records)
 
+few_made : (made rest all : ℕ) → all ≡ made + rest → all ≤ most_records → made < 18446744073709551616
+few_made made rest all is few = omega arith
+
 pub list_few : (run : Run) (choice : Choice) (rank : ℕ) → length (calls_of (list_of run choice rank)) ≤ most_records
 list_few run choice rank = by_journal (journal_at run rank)
   where
@@ -110,7 +117,7 @@ module _ (ranks : ℕ) (journals : List (Option JournalRead)) (choice : ChoiceMa
       by_rank : (rank ≡ other) ⊎ (rank ≡ other → ⊥) → IsWalkOf (run_in journals) choice later other walk
       by_rank (inl same) =
           let there : slice_get (set walks rank new) rank ≡ Some new = get_set_same walks rank new (slice_get_within walks rank old at) in
-          let one : walk ≡ new = cc (got, there, same) in
+          let one : walk ≡ new = one_there (set walks rank new) rank other new walk there got same in
           subst (λ (n : ℕ). IsWalkOf (run_in journals) choice later n walk) same
           (subst (λ (it : Walk). IsWalkOf (run_in journals) choice later rank it) (sym one) (here fit))
       by_rank (inr apart) = stays other walk (is.have.are fit other walk (sym (get_set_other walks rank other new apart) ∙ got))
@@ -121,7 +128,7 @@ module _ (ranks : ℕ) (journals : List (Option JournalRead)) (choice : ChoiceMa
       by_rank : (rank ≡ other) ⊎ (rank ≡ other → ⊥) → walk.is_over ≡ true
       by_rank (inl same) =
           let there : slice_get (set walks rank new) rank ≡ Some new = get_set_same walks rank new (slice_get_within walks rank old at) in
-          let one : walk ≡ new = cc (got, there, same) in
+          let one : walk ≡ new = one_there (set walks rank new) rank other new walk there got same in
           let none_here : slice_get journals rank ≡ Some None = ap (slice_get journals) same ∙ none in
           ap (λ (it : Walk). it.is_over) one ∙ over (is.have.alone rank old none_here at)
       by_rank (inr apart) = is.have.alone other walk none (sym (get_set_other walks rank other new apart) ∙ got)
@@ -176,7 +183,8 @@ module _ (ranks : ℕ) (journals : List (Option JournalRead)) (choice : ChoiceMa
   pub made_few : IsFit (run_in journals) (choice_in choice) → made_by old < 18446744073709551616
   made_few fit =
       let part = rank_part ranks journals choice kept walks is fit rank old at in
-      omega (arith, all_made (list_of (run_in journals) (choice_in choice) rank) old part, list_few (run_in journals) (choice_in choice) rank)
+      few_made (made_by old) (length part.rest) (length (calls_of (list_of (run_in journals) (choice_in choice) rank)))
+      (all_made (list_of (run_in journals) (choice_in choice) rank) old part) (list_few (run_in journals) (choice_in choice) rank)
 
   pub all_handed : new.handed ≡ made_by old → slice_get (map (λ walk. walk.handed) (set walks rank new)) rank ≡ slice_get (map made_by walks) rank
   all_handed handed =
