@@ -1,0 +1,7 @@
+-- What is put on the page is printed.
+use Rattle.report.proofs.PrintingLemmas.{prints_pushed}
+use Rattle.report.proofs.write.opened.write_end.Goals as goal
+
+pub returns : goal.returns
+returns g c =
+    prints_pushed g.O.Output.written g.O.Output.failures c.args.out.now c.make_room.new.out c.args.printer.now c.make_room.new.self _ _ c.make_room.ensures.keeps c.push_awaited.ensures
