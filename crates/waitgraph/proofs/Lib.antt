@@ -23,6 +23,7 @@ pub mod CauseLemmas
 pub mod PendingLemmas
 pub mod PendingRows
 pub mod ScenesLemmas
+pub mod MovingLemmas
 pub mod BucketLemmas
 pub mod SinkTableLemmas
 pub mod FreeLemmas

@@ -1,6 +1,6 @@
 -- What the search sees, part by part.
-use Rattle.std.proofs.Common.{◌≡◌, ℕ, zero, suc, ◌+◌, ◌<◌, ◌≤◌, ◌==◌, Bool, true, false, not, ◌&&◌, ◌||◌, Option, Some, None, List, [], ◌∷◌, ◌++◌, length, map, flat_map, take, get_or, refl, sym, ap, subst, ◌∙◌, ⊎_elim, arith, append_assoc, length-append}
-use Rattle.std.specs.Prelude.{find, nat_lt}
+use Rattle.std.proofs.Common.{◌≡◌, ℕ, zero, suc, ◌+◌, ◌<◌, ◌≤◌, ◌==◌, Bool, true, false, not, ◌&&◌, ◌||◌, Option, Some, None, is_some, List, [], ◌∷◌, ◌++◌, length, map, flat_map, take, get_or, refl, sym, ap, subst, ◌∙◌, ⊎_elim, arith, append_assoc, length-append}
+use Rattle.std.specs.Prelude.{find, nat_lt, if◌then◌else◌}
 use Rattle.std.specs.List.{slice_get, filter, list_all, list_any, range_with_len}
 use Rattle.std.specs.Option.{option_map_or}
 use Rattle.std.proofs.lemmas.Bool.{cases_Bool, and_parts, not-true, lt-ltb, ltb-true, false_from_ne_true}
@@ -10,12 +10,12 @@ use Rattle.std.proofs.lemmas.Option.{none-some, same_Some, slice_get-get_or, sli
 use Rattle.mpicall.specs.declared.call.Call.{Call}
 use Rattle.mpigroup.specs.Groups.{group_of}
 use Rattle.callstore.specs.Recordings.{calls_of}
-use Rattle.callstore.specs.Requests.{completes, started_before}
+use Rattle.callstore.specs.Requests.{starts, completes, started_before}
 use Rattle.moves.specs.Needs.{member_need}
 use Rattle.moves.specs.declared.need.Need.TheVariants.{Lacking}
 use Rattle.callstore.proofs.PlaceLemmas.{slice_get_there}
 use Rattle.moves.proofs.WaitLemmas.{start_is}
-use Rattle.waitgraph.specs.Pending.{Part, request_needs, part_of, pass_all_or_one}
+use Rattle.waitgraph.specs.Pending.{Part, operation_needs, request_needs, call_needs, part_of, pass_all_or_one}
 use Rattle.waitgraph.specs.inner.Loose.{set_of}
 use Rattle.waitgraph.specs.inner.Scenes.{staying, comes, source_needs, member_passes, member_may_send, index_passes, item_passes}
 use Rattle.waitgraph.specs.declared.may_move.Scene.{Scene}
@@ -204,3 +204,21 @@ any_over p f (x ∷ xs) = ap (λ (b : Bool). p (f x) || b) (any_over p f xs)
 pub items_over : (scene : Scene) (marks : List Bool) (rank : ℕ) (is_all : Bool) (items : List Item) → pass_all_or_one is_all (λ (part : Part). pass_all_or_one part.is_all (comes scene marks) part.needs) (map (part_of scene.world.now.reading scene.world.now.pairs.groups scene.world.now.pairs.recording scene.sinks.now rank) items) ≡ pass_all_or_one is_all (item_passes scene marks rank) items
 items_over scene marks rank true items = list_all-map (λ (part : Part). pass_all_or_one part.is_all (comes scene marks) part.needs) (part_of scene.world.now.reading scene.world.now.pairs.groups scene.world.now.pairs.recording scene.sinks.now rank) items
 items_over scene marks rank false items = any_over (λ (part : Part). pass_all_or_one part.is_all (comes scene marks) part.needs) (part_of scene.world.now.reading scene.world.now.pairs.groups scene.world.now.pairs.recording scene.sinks.now rank) items
+
+-- a call by its operation and the requests that it completes
+passes_two : {A : Type 0} (p : A → Bool) (b r : Bool) (some more : List A) → b ≡ false → r ≡ (list_all p some && list_all p more) → r ≡ list_all p (if b then [] else some ++ more)
+passes_two {A} p b r some more fails is = is ∙ sym (all_both p some more) ∙ ap (λ (b : Bool). list_all p (if b then [] else some ++ more)) (sym fails)
+
+pub passes_none : {A : Type 0} (p : A → Bool) (b : Bool) (xs : List A) → b ≡ true → true ≡ list_all p (if b then [] else xs)
+passes_none {A} p b xs passes = ap (λ (b : Bool). list_all p (if b then [] else xs)) (sym passes)
+
+pub call_passes : (scene : Scene) (marks : List Bool) (at : ℕ × ℕ) (call : Call) (r operation : Bool) → slice_get (calls_of scene.world.now.pairs.recording at.0) at.1 ≡ Some call → is_some (starts call) ≡ false → operation ≡ list_all (comes scene marks) (operation_needs scene.world.now.reading scene.world.now.pairs.groups scene.world.now.pairs.recording scene.sinks.now at.0 at.1 call) → r ≡ (operation && list_all (index_passes scene marks at) (range_with_len 0 (length (completes call)))) → r ≡ list_all (comes scene marks) (call_needs scene.world.now.reading scene.world.now.pairs.groups scene.world.now.pairs.recording scene.sinks.now at.0 at.1 call)
+call_passes scene marks at call r operation present fails first is =
+    let requests = list_all (index_passes scene marks at) (range_with_len 0 (length (completes call))) in
+    let w = scene.world.now in
+    passes_two (comes scene marks) (is_some (starts call)) r
+    (operation_needs w.reading w.pairs.groups w.pairs.recording scene.sinks.now at.0 at.1 call)
+    (flat_map (λ req. request_needs w.reading w.pairs.groups w.pairs.recording scene.sinks.now at.0 (started_before w.pairs.recording at.0 at.1 req)) (completes call))
+    fails
+    (is ∙ ap (λ (b : Bool). b && requests) first
+    ∙ ap (λ (b : Bool). list_all (comes scene marks) (operation_needs w.reading w.pairs.groups w.pairs.recording scene.sinks.now at.0 at.1 call) && b) (requests_pass scene marks at call present))
