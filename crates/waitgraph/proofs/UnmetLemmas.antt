@@ -1,6 +1,6 @@
 -- What the unmet needs of a rank are.
 use Rattle.moves.specs.declared.reading.Reading.{Reading}
-use Rattle.std.proofs.Common.{true, false, ◌≡◌, ℕ, ◌<◌, ◌≤◌, Bool, Option, Some, None, is_some, List, [], ◌++◌, length, flat_map, refl, sym, ap, ◌∙◌, ⊎_elim, append_assoc, append-nil}
+use Rattle.std.proofs.Common.{true, false, ◌≡◌, ℕ, ◌<◌, ◌≤◌, Bool, Option, Some, is_some, List, [], ◌++◌, length, flat_map, refl, sym, ap, ◌∙◌, ⊎_elim, append_assoc, append-nil}
 use Rattle.std.specs.Prelude.{unwrap_or, slice_index, if◌then◌else◌}
 use Rattle.std.specs.List.{slice_get, filter}
 use Rattle.std.specs.Option.{option_map_or}
