@@ -1,4 +1,5 @@
 mod Rows
+pub mod CallOfLemmas
 pub mod ChoiceLemmas
 pub mod FreeLemmas
 mod FreedIds

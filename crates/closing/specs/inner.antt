@@ -25,3 +25,4 @@ pub mod Sinks
 pub mod SoFar
 pub mod Taken
 pub mod Sunk
+pub mod CallOf

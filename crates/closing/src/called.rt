@@ -76,6 +76,7 @@ pub(crate) enum Called<'a> {
 
 // ---- Fields that aren't those of a word, as no line of a journal has them, say nothing ----
 
+#[inline(always)]
 fn bytes_in(fields: &[Field]) -> Option<u32>
     ensures { result ≡ bytes_in fields.now }
 {
@@ -85,6 +86,7 @@ fn bytes_in(fields: &[Field]) -> Option<u32>
     }
 }
 
+#[inline(always)]
 fn make_sent(comm: u32, dest: Field, tag: Field, bytes: &[Field]) -> Sent
     ensures { sent_view result ≡ sent comm dest tag bytes.now }
 {
@@ -96,6 +98,7 @@ fn make_sent(comm: u32, dest: Field, tag: Field, bytes: &[Field]) -> Sent
     }
 }
 
+#[inline(always)]
 fn make_awaited(comm: u32, source: Field, tag: Field) -> Awaited
     ensures { awaited_view result ≡ awaited comm source tag }
 {
@@ -113,7 +116,8 @@ fn sends<'a>(mode: Mode, fields: &[Field]) -> Called<'a>
     }
 }
 
-fn starts_send<'a>(mode: Mode, fields: &[Field]) -> Called<'a>
+#[inline(always)]
+pub(crate) fn starts_send<'a>(mode: Mode, fields: &[Field]) -> Called<'a>
     ensures { called_view result ≡ starts_send mode fields.now }
 {
     match fields {
@@ -128,7 +132,8 @@ fn starts_send<'a>(mode: Mode, fields: &[Field]) -> Called<'a>
     }
 }
 
-fn receives<'a>(fields: &[Field]) -> Called<'a>
+#[inline(always)]
+pub(crate) fn receives<'a>(fields: &[Field]) -> Called<'a>
     ensures { called_view result ≡ awaits say.Receives fields.now }
 {
     match fields {
@@ -137,7 +142,8 @@ fn receives<'a>(fields: &[Field]) -> Called<'a>
     }
 }
 
-fn starts_receive<'a>(fields: &[Field]) -> Called<'a>
+#[inline(always)]
+pub(crate) fn starts_receive<'a>(fields: &[Field]) -> Called<'a>
     ensures { called_view result ≡ starts_awaiting say.StartsReceive fields.now }
 {
     match fields {
@@ -544,6 +550,7 @@ pub(crate) fn comm_in(word: CallWord, fields: &[Field]) -> Option<u32>
 
 impl Called<'_> {
     /// The rank's own number of the communicator of a call that all its members make, each one of a wave.
+    #[inline(always)]
     pub(crate) fn wave_comm(&self) -> Option<u32>
         ensures { result ≡ wave_comm (called_view self.now) }
     {
@@ -559,6 +566,7 @@ impl Called<'_> {
     }
 
     /// That of the communicator that the call is on.
+    #[inline(always)]
     pub(crate) fn comm(&self) -> Option<u32>
         ensures { result ≡ comm_of (called_view self.now) }
     {
@@ -576,6 +584,7 @@ impl Called<'_> {
     }
 
     /// Whether it counts among those on a communicator, or makes one of a group.
+    #[inline(always)]
     pub(crate) fn counts(&self) -> bool
         ensures { result ≡ counts (called_view self.now) }
     {
@@ -592,6 +601,7 @@ impl Called<'_> {
     }
 
     /// Whether all members of a communicator make such a call, which may give some of them one.
+    #[inline(always)]
     pub(crate) fn makes_comm(&self) -> bool
         ensures { result ≡ makes_comm (called_view self.now) }
     {
@@ -602,6 +612,7 @@ impl Called<'_> {
     }
 
     /// Whether it may give this rank one.
+    #[inline(always)]
     pub(crate) fn may_give(&self) -> bool
         ensures { result ≡ may_give (called_view self.now) }
     {

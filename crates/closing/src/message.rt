@@ -62,6 +62,7 @@ fn is_any(field: Field) -> bool
 
 /// The message that a receive or probe takes or sees that has a source; None where it has a wildcard of which
 /// nothing was reported.
+#[inline(always)]
 fn message_from(awaited: &Awaited, reported: Option<Message>) -> Option<Message>
     ensures { option_map message_view result ≡ message_with_source (awaited_view awaited.now) (option_map message_view reported) }
 {
@@ -76,6 +77,7 @@ fn message_from(awaited: &Awaited, reported: Option<Message>) -> Option<Message>
 
 /// The message that a receive or probe takes or sees; None where it has a wildcard of which nothing was
 /// reported. From nobody there is no wildcard: any tag is 0.
+#[inline(always)]
 pub(crate) fn message_of(awaited: &Awaited, reported: Option<Message>) -> Option<Message>
     ensures { option_map message_view result ≡ message_of (awaited_view awaited.now) (option_map message_view reported) }
 {

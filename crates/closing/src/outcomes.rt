@@ -1,6 +1,7 @@
 //! What a journal reports of its requests, anywhere.
 
-ghost use Rattle.std.specs.Prelude.{◌≡◌, ◌<◌, ◌==◌, ℕ, OnOk, IfOk, option_map, slice_get, if◌then◌else◌};
+ghost use Rattle.std.specs.Prelude.{◌≡◌, ◌<◌, ◌==◌, ℕ, OnOk, IfOk, nat_eq, option_map, slice_get, if◌then◌else◌};
+ghost use Rattle.std.specs.HashMap.{get};
 ghost use Rattle.std.specs.Vec.{vec_len};
 ghost use Rattle.closing.specs.inner.Outcomes.{is_gone, is_left_out, is_moved, is_settled, kept_at, message_by, outcome_at, outcome_at_line, outcome_by, outcome_in};
 ghost use Rattle.closing.specs.inner.RequestReports.{AreReadable, Tells};
@@ -126,18 +127,28 @@ impl Outcomes {
         Ok(())
     }
 
+    /// What is kept of a request that is far, if anything.
+    #[inline(never)]
+    fn kept_far(&self, request: u32) -> Option<Outcome>
+        ensures { result ≡ get nat_eq self.now.far request }
+    {
+        self.far.get(&request).copied()
+    }
+
     /// What is kept of a request, if anything.
+    #[inline(always)]
     fn kept(&self, request: u32) -> Option<Outcome>
         ensures { result ≡ kept_at self.now request }
     {
         let place = request as usize;
         if place > self.most {
-            return self.far.get(&request).copied();
+            return self.kept_far(request);
         }
         self.near.get(place).copied()
     }
 
     /// What came of a request.
+    #[inline(always)]
     fn outcome(&self, request: u32) -> Outcome
         ensures { result ≡ outcome_at self.now request }
     {
@@ -158,6 +169,7 @@ impl Outcomes {
     }
 
     /// The message with which a request completed, where that is reported.
+    #[inline(always)]
     pub(crate) fn message(&self, lines: &Lines, request: u32) -> Option<Message>
         ensures { option_map message_view result ≡ message_by lines.now (outcome_at self.now request) }
     {
@@ -171,6 +183,7 @@ impl Outcomes {
     }
 
     /// Whether the request was cancelled.
+    #[inline(always)]
     pub(crate) fn is_gone(&self, request: u32) -> bool
         ensures { result ≡ is_gone (outcome_at self.now request) }
     {
@@ -178,6 +191,7 @@ impl Outcomes {
     }
 
     /// Whether the receive of the request goes on in the journal after this one.
+    #[inline(always)]
     pub(crate) fn is_moved(&self, request: u32) -> bool
         ensures { result ≡ is_moved (outcome_at self.now request) }
     {
@@ -185,6 +199,7 @@ impl Outcomes {
     }
 
     /// Whether waits leave the request out.
+    #[inline(always)]
     pub(crate) fn is_left_out(&self, request: u32) -> bool
         ensures { result ≡ is_left_out (outcome_at self.now request) }
     {

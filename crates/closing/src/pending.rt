@@ -105,6 +105,7 @@ impl Sinks {
         self.all.as_slice()
     }
 
+    #[inline(always)]
     pub(crate) fn are_none(&self) -> bool
         ensures { result ≡ true → self.now.all.items ≡ [] }
     {

@@ -143,6 +143,7 @@ impl RankComms {
     }
 
     /// The key of a communicator by the rank's own number.
+    #[inline(always)]
     pub(crate) fn key_under(&self, comm: u32) -> Option<u32>
         ensures { (table : Table) (comms : say.RankComms) → HasComms table self.now comms → IsPlaceOf table result (key_under comms comm) }
     {
@@ -157,6 +158,7 @@ impl RankComms {
     }
 
     /// The key of the communicator of a group that the last call made.
+    #[inline(always)]
     pub(crate) fn own(&self) -> Option<u32>
         ensures { (table : Table) (comms : say.RankComms) → HasComms table self.now comms → IsPlaceOf table result comms.own }
     {
@@ -174,6 +176,7 @@ impl RankComms {
     }
 
     /// Takes the next call, which neither counts nor makes a communicator of a group.
+    #[inline(always)]
     #[tactic(auto, using(crate::proofs::PlainLemmas::plain_comms))]
     pub(crate) fn take_plain(&mut self)
         ensures { (table : Table) (comms : say.RankComms) (it : say_called.Called) → counts it ≡ false → HasComms table self.old comms →
@@ -184,6 +187,7 @@ impl RankComms {
     }
 
     /// The key of the communicator that a call is on.
+    #[inline(always)]
     pub(crate) fn key_on(&self, called: &Called<'_>) -> Option<u32>
         ensures { (table : Table) (comms : say.RankComms) → HasComms table self.now comms → IsPlaceOf table result (key_on comms (called_view called.now)) }
     {
@@ -191,6 +195,7 @@ impl RankComms {
     }
 
     /// Takes the next call, which is on the communicator of this key, and answers its wave.
+    #[inline(always)]
     #[tactic(auto, using(crate::proofs::TableLemmas::grows_same, crate::proofs::PlainLemmas::plain_wave))]
     pub(crate) fn take_call(
         &mut self,
@@ -208,6 +213,24 @@ impl RankComms {
             self.take_plain();
             return Ok(None);
         }
+        let called = *called;
+        self.take_counted(keys, &called, on)
+    }
+
+    /// The same of one that counts, or that doesn't: what it brings is sought.
+    #[inline(never)]
+    fn take_counted(
+        &mut self,
+        keys: &mut Keys,
+        called: &Called<'_>,
+        on: Option<u32>,
+    ) -> Result<Option<Wave>, AllocError>
+        ensures grows { OnOk result (IsTable keys.old → Grows keys.old keys.new) }
+        ensures comms { OnOk result ((comms : say.RankComms) → HasComms keys.old self.old comms →
+            IsPlaceOf keys.old on (key_on comms (called_view called.now)) → HasComms keys.new self.new (after_call comms (called_view called.now))) }
+        ensures wave { IfOk result (λ wave. (comms : say.RankComms) → HasComms keys.old self.old comms →
+            IsPlaceOf keys.old on (key_on comms (called_view called.now)) → IsWaveOf keys.new wave (wave_next comms (called_view called.now))) }
+    {
         let wave = next_wave(&mut self.waves, called, on)?;
         let own = next_of_group(&mut self.groups, keys, called)?;
         note_duplicate(&mut self.duplicates, called, wave)?;

@@ -3,7 +3,8 @@
 //! Recorders number them one after another, so a list has their keys in that order. A number that is far beyond
 //! those before it has its key in a map.
 
-ghost use Rattle.std.specs.Prelude.{◌≡◌, ◌==◌, ℕ, None, Some, OnOk, if◌then◌else◌};
+ghost use Rattle.std.specs.Prelude.{◌≡◌, ◌==◌, ℕ, None, Some, OnOk, nat_eq, if◌then◌else◌};
+ghost use Rattle.std.specs.HashMap.{get};
 ghost use Rattle.closing.specs.inner.Holds.{key_kept};
 
 use std::alloc::{AllocError, Global};
@@ -26,13 +27,22 @@ impl RankNumbers {
         }
     }
 
+    /// The key of a number that the list doesn't have, if it has one.
+    #[inline(never)]
+    fn get_far(&self, number: u32) -> Option<u32>
+        ensures { result ≡ get nat_eq self.now.far number }
+    {
+        self.far.get(&number).copied()
+    }
+
     /// The key of a number, if it has one.
+    #[inline(always)]
     pub(crate) fn get(&self, number: u32) -> Option<u32>
         ensures { result ≡ key_kept self.now number }
     {
         match self.near.get(number as usize).copied() {
             Some(Some(key)) => Some(key),
-            _ => self.far.get(&number).copied(),
+            _ => self.get_far(number),
         }
     }
 

@@ -52,6 +52,7 @@ impl Standing {
 
     /// The message that a request takes, if it is that of a started matched receive.
     #[tactic(auto, using(crate::proofs::StandingLemmas::none_of_none))]
+    #[inline(always)]
     fn message_for(&self, request: u32) -> Option<u32>
         ensures { result ≡ message_for self.now request }
     {
@@ -62,6 +63,7 @@ impl Standing {
     }
 
     /// The same; where there is none, another.
+    #[inline(always)]
     fn message_or(&self, request: u32, message: u32) -> u32
         ensures { result ≡ unwrap_or (message_for self.now request) message }
     {
@@ -82,12 +84,14 @@ impl Standing {
     }
 
     /// The message with which a request completed, where that is reported.
+    #[inline(always)]
     pub(crate) fn message(&self, lines: &Lines, request: u32) -> Option<Message>
         ensures { option_map message_view result ≡ message_by lines.now (outcome_at self.now.outcomes request) }
     {
         self.outcomes.message(lines, request)
     }
 
+    #[inline(always)]
     pub(crate) fn is_gone(&self, request: u32) -> bool
         ensures { result ≡ is_gone (outcome_at self.now.outcomes request) }
     {
@@ -95,6 +99,7 @@ impl Standing {
     }
 
     /// Whether waits leave the request out.
+    #[inline(always)]
     pub(crate) fn is_left_out(&self, request: u32) -> bool
         ensures { result ≡ is_left_out (outcome_at self.now.outcomes request) }
     {
@@ -102,6 +107,7 @@ impl Standing {
     }
 
     /// What a started receive awaits; that of a moved request nobody.
+    #[inline(always)]
     pub(crate) fn unless_moved(&self, request: u32, awaited: &Awaited) -> Awaited
         ensures { (lines : List Line) → Tells lines self.now.outcomes → awaited_view result ≡ unless_moved lines request (awaited_view awaited.now) }
     {
@@ -122,6 +128,7 @@ impl Standing {
     }
 
     /// What a request is in the trace: itself, or the message that it receives.
+    #[inline(always)]
     pub(crate) fn id_of(&self, request: u32) -> u32
         ensures { result ≡ id_in self.now request }
     {
@@ -129,6 +136,7 @@ impl Standing {
     }
 
     /// Adds what a request is in the trace at the end of a list, unless waits leave it out.
+    #[inline(always)]
     fn push_id(&self, field: Field, into: &mut Vec<u32>) -> Result<(), AllocError>
         ensures { OnOk result (into.new.items ≡ into.old.items ++ ids_in self.now (field ∷ [])) }
     {

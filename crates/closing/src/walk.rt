@@ -14,6 +14,7 @@ ghost use Rattle.closing.specs.Made.{inferred_key};
 ghost use Rattle.closing.specs.Recording.{is_end, progress_first};
 ghost use Rattle.closing.specs.Steps.{Progress};
 ghost use Rattle.closing.specs.inner.Holds.{HasComms};
+ghost use Rattle.closing.specs.inner.CallOf.{IsCallOf};
 ghost use Rattle.closing.specs.inner.Lists.{Handed, Stands, has_place};
 ghost use Rattle.closing.specs.inner.Makers.{MayMake};
 ghost use Rattle.closing.specs.inner.Noted.{call_if, came_back_at, reports_in, line_if};
@@ -35,7 +36,7 @@ ghost use Rattle.closing.specs.inner.RequestReports.{AreReadable};
 ghost use Rattle.closing.specs.inner.Walked.{LateCall, Meets, TakesCall, fields_of_line, message_after, number_at, number_or, size_at};
 ghost use Rattle.closing.specs.inner.Walks.{Spot};
 
-use crate::called::{Called, read_call};
+use crate::called::{Called, read_call, receives, starts_receive, starts_send};
 use crate::choice::{Calls, Choice};
 use crate::freed::Freed;
 use crate::keys::Wave;
@@ -53,7 +54,7 @@ use journals::field::Field;
 use journals::journal::Journal;
 use journals::lines::Lines;
 use journals::word::{CallWord, ReportWord, Word};
-use mpicall::call::Call;
+use mpicall::call::{Call, Mode};
 use mpicall::record::Record;
 use std::alloc::{AllocError, Global};
 
@@ -87,6 +88,7 @@ struct At<'a> {
 
 impl At<'_> {
     /// How many members the communicator has.
+    #[inline(always)]
     fn size(&self) -> u32
         ensures { result ≡ size_at self.now }
     {
@@ -97,6 +99,7 @@ impl At<'_> {
     }
 
     /// The number of the communicator, where what the call names can be.
+    #[inline(always)]
     fn number_if(&self, can_be: bool) -> Result<u16, Stop>
         ensures { result ≡ number_or can_be (number_at self.now) }
     {
@@ -172,6 +175,7 @@ fn call_at(lines: &Lines, line: u32) -> Option<CallWord>
 }
 
 /// Why a call ends the list whatever is reported of it; a cut does unless the run is a window.
+#[inline(always)]
 fn breaks_off(is_window: bool, it: &Called<'_>) -> Option<Why>
     ensures { result ≡ breaks_off is_window (called_view it.now) }
 {
@@ -184,6 +188,7 @@ fn breaks_off(is_window: bool, it: &Called<'_>) -> Option<Why>
     }
 }
 
+#[inline(always)]
 fn is_end(it: &Called<'_>) -> bool
     ensures { result ≡ is_end (called_view it.now) }
 {
@@ -191,6 +196,7 @@ fn is_end(it: &Called<'_>) -> bool
 }
 
 /// The fields of a line, where there is one.
+#[inline(always)]
 #[tactic(auto, using(crate::proofs::AtLemmas::fields_there, crate::proofs::AtLemmas::fields_none))]
 fn fields_if(lines: &Lines, line: Option<u32>) -> Option<&[Field]>
     ensures { option_map (λ fields. fields.now) result ≡ option_map (λ line. line.fields) (line_if lines.now line) }
@@ -203,6 +209,7 @@ fn fields_if(lines: &Lines, line: Option<u32>) -> Option<&[Field]>
 }
 
 /// The same; none where there is no line.
+#[inline(always)]
 fn fields_at(lines: &Lines, line: Option<u32>) -> &[Field]
     ensures { result.now ≡ fields_of_line lines.now line }
 {
@@ -308,6 +315,7 @@ impl Walk {
         self.finish(Call::Open)
     }
 
+    #[inline(never)]
     fn finish(&mut self, end: Call) -> Result<(), AllocError>
         ensures same { self.new ≡ record self.old { list = self.new.list; is_over = true } }
         ensures end { OnOk result (IsTrue (in_ranges end) → self.new.list.records ≡ self.old.list.records ++ end ∷ []) }
@@ -391,6 +399,7 @@ impl Walk {
 
     /// Takes the report at a place, if there is one, and answers the key of the communicator that the call before
     /// it made.
+    #[inline(never)]
     #[tactic(auto, using(crate::proofs::PlacedLemmas::comms_reported))]
     fn take_report(
         &mut self,
@@ -420,6 +429,7 @@ impl Walk {
 
     /// Takes the reports at some places, and answers the key of the communicator that the call before them
     /// made.
+    #[inline(always)]
     #[tactic(auto, using(crate::proofs::SoFarLemmas::reports_first, crate::proofs::SoFarLemmas::reports_next, crate::proofs::SoFarLemmas::reports_last))]
     fn take_reports(
         &mut self,
@@ -482,7 +492,9 @@ impl Walk {
         }
     }
 
-    /// Takes an entry, and answers whether it is the end of the rank's calls.
+    /// Takes an entry, and answers whether it is the end of the rank's calls. The calls that come most often are known
+    /// by their variants where they are taken, so that they need no place in memory.
+    #[inline(always)]
     fn take_entry(
         &mut self,
         run: &mut Communicators,
@@ -498,27 +510,88 @@ impl Walk {
             IsEntered said (choice_in self.old.choice) (placed_here self.old.rank (record { heading = heading; lines = lines.now }) entry.now.place entry.now.word)
             result handed progress run.old.keys run.new.keys entry.now.reports.end self.new }
     {
+        let fields = lines.fields(entry.place);
+        match entry.word {
+            CallWord::Isend => {
+                let it = starts_send(Mode::Standard, fields);
+                self.take_called(run, lines, entry, &it)
+            }
+            CallWord::Irecv => {
+                let it = starts_receive(fields);
+                self.take_called(run, lines, entry, &it)
+            }
+            CallWord::Recv => {
+                let it = receives(fields);
+                self.take_called(run, lines, entry, &it)
+            }
+            CallWord::Wait => self.take_called(run, lines, entry, &Called::Waits(fields)),
+            _ => {
+                let entry = *entry;
+                self.take_any(run, lines, &entry)
+            }
+        }
+    }
+
+    /// The same of any call.
+    #[inline(never)]
+    fn take_any(
+        &mut self,
+        run: &mut Communicators,
+        lines: &Lines,
+        entry: &Entry,
+    ) -> Result<bool, Stop>
+        ensures same { self.new ≡ record self.old { comms = self.new.comms; list = self.new.list; requests = self.new.requests; late = self.new.late; ids = self.new.ids; wanted = self.new.wanted; sinks = self.new.sinks; pending = self.new.pending; left_out = self.new.left_out } }
+        ensures outcomes { self.new.requests.outcomes ≡ self.old.requests.outcomes }
+        ensures run { run.new ≡ record run.old { keys = run.new.keys } }
+        ensures entered { (said : Run) (heading : Heading) (handed : Handed) (progress : Progress) →
+            IsBefore said (record { heading = heading; lines = lines.now }) run.old self.old entry.now →
+            IsReady said (choice_in self.old.choice) (record { heading = heading; lines = lines.now }) handed progress self.old entry.now →
+            IsEntered said (choice_in self.old.choice) (placed_here self.old.rank (record { heading = heading; lines = lines.now }) entry.now.place entry.now.word)
+            result handed progress run.old.keys run.new.keys entry.now.reports.end self.new }
+    {
         let it = read_call(entry.word, lines.fields(entry.place));
-        if let Some(why) = breaks_off(run.is_window, &it) {
+        self.take_called(run, lines, entry, &it)
+    }
+
+    /// Takes an entry by its call.
+    #[inline(always)]
+    fn take_called(
+        &mut self,
+        run: &mut Communicators,
+        lines: &Lines,
+        entry: &Entry,
+        it: &Called<'_>,
+    ) -> Result<bool, Stop>
+        ensures same { self.new ≡ record self.old { comms = self.new.comms; list = self.new.list; requests = self.new.requests; late = self.new.late; ids = self.new.ids; wanted = self.new.wanted; sinks = self.new.sinks; pending = self.new.pending; left_out = self.new.left_out } }
+        ensures outcomes { self.new.requests.outcomes ≡ self.old.requests.outcomes }
+        ensures run { run.new ≡ record run.old { keys = run.new.keys } }
+        ensures entered { (said : Run) (heading : Heading) (handed : Handed) (progress : Progress) → IsCallOf lines.now entry.now it.now →
+            IsBefore said (record { heading = heading; lines = lines.now }) run.old self.old entry.now →
+            IsReady said (choice_in self.old.choice) (record { heading = heading; lines = lines.now }) handed progress self.old entry.now →
+            IsEntered said (choice_in self.old.choice) (placed_here self.old.rank (record { heading = heading; lines = lines.now }) entry.now.place entry.now.word)
+            result handed progress run.old.keys run.new.keys entry.now.reports.end self.new }
+    {
+        if let Some(why) = breaks_off(run.is_window, it) {
             return Err(Stop::Left(why));
         }
-        if is_end(&it) {
+        if is_end(it) {
             self.list.waits_for(self.late.as_slice())?;
             return Ok(true);
         }
         if entry.reports.has_failed {
             return Err(Stop::Left(Why::Failed));
         }
-        let at = self.at(run, lines, entry, &it)?;
-        let is_taken = self.takes_sink(lines, &at, &it)?;
+        let at = self.at(run, lines, entry, it)?;
+        let is_taken = self.takes_sink(lines, &at, it)?;
         if is_taken {
             return Ok(false);
         }
-        self.take(run, lines, &at, &it)?;
+        self.take(run, lines, &at, it)?;
         Ok(false)
     }
 
     /// Where the call of an entry stands. It, and what is reported of it, are taken.
+    #[inline(always)]
     fn at<'a>(
         &mut self,
         run: &mut Communicators,
@@ -558,6 +631,7 @@ impl Walk {
     }
 
     /// Whether the call came back.
+    #[inline(always)]
     fn came_back(&self, place: u32) -> bool
         ensures { result ≡ came_back_at self.now.last place }
     {
@@ -568,6 +642,7 @@ impl Walk {
     }
 
     /// Whether the call stands for what it started alone.
+    #[inline(always)]
     fn is_past(&self, place: u32) -> bool
         ensures { (placed : Placed) → placed.came_back ≡ came_back_at self.now.last place → result ≡ is_past self.now.choice.calls placed }
     {
@@ -575,6 +650,7 @@ impl Walk {
     }
 
     /// What a call that never came back made, by what other ranks report of theirs.
+    #[inline(always)]
     fn inferred(&self, run: &Communicators, it: &Called<'_>, place: u32) -> Option<u32>
         ensures { (said : Run) (placed : Placed) (n : ℕ) → IsNumberedRun said run.now → self.now.rank < length said → slice_get (entries_at said self.now.rank) n ≡ Some placed →
             placed.called ≡ called_view it.now → placed.came_back ≡ came_back_at self.now.last place → IsPlaceOf run.now.keys result (inferred_key said placed) }
@@ -586,8 +662,9 @@ impl Walk {
         }
     }
 
-    /// Puts the lines of an entry, or answers why the list ends at it.
-    #[inline(never)]
+    /// Puts the lines of an entry, or answers why the list ends at it. What is taken by calls is copied, so that a call
+    /// whose variant is known needs no place in memory.
+    #[inline(always)]
     fn take(
         &mut self,
         run: &Communicators,
@@ -604,14 +681,26 @@ impl Walk {
             LateCall (choice_in self.old.choice) spot (called_view it.now) self.old.list self.old.late.items self.new.late.items) }
     {
         match it {
-            Called::Sends(mode, sent) => self.sends(at, *mode, sent),
-            Called::StartsSend(own, mode, sent) => self.starts_send(at, *own, *mode, sent),
-            Called::Receives(awaited) => self.receives(at, awaited),
+            Called::Sends(mode, sent) => {
+                let sent = *sent;
+                self.sends(at, *mode, &sent)
+            }
+            Called::StartsSend(own, mode, sent) => {
+                let sent = *sent;
+                self.starts_send(at, *own, *mode, &sent)
+            }
+            Called::Receives(awaited) => {
+                let awaited = *awaited;
+                self.receives(at, &awaited)
+            }
             Called::StartsReceive(own, awaited) => {
                 let awaited = self.requests.unless_moved(*own, awaited);
                 self.starts_receive(lines, at, *own, &awaited)
             }
-            Called::Exchanges(sent, awaited) => self.exchanges(at, sent, awaited),
+            Called::Exchanges(sent, awaited) => {
+                let (sent, awaited) = (*sent, *awaited);
+                self.exchanges(at, &sent, &awaited)
+            }
             Called::StartsExchange(own, other, sent, awaited) => {
                 let awaited = self.requests.unless_moved(*other, awaited);
                 let halves = Halves {
@@ -622,17 +711,32 @@ impl Walk {
                 };
                 self.starts_exchange(lines, at, &halves)
             }
-            Called::Probes(awaited) => self.probes(at, awaited),
-            Called::ProbesMatching(own, awaited) => self.probes_matching(at, *own, awaited),
+            Called::Probes(awaited) => {
+                let awaited = *awaited;
+                self.probes(at, &awaited)
+            }
+            Called::ProbesMatching(own, awaited) => {
+                let awaited = *awaited;
+                self.probes_matching(at, *own, &awaited)
+            }
             Called::Collects(collective, _, root) => self.collects(at, *collective, *root),
             Called::StartsCollective(own, collective, _, root) => {
                 self.starts_collective(at, *own, *collective, *root)
             }
             Called::StartsDuplicate(own, _) => self.starts_duplicate(at, *own),
             Called::MakesOfGroup(_) => self.makes_of_group(at),
-            Called::Duplicates(_) => self.makes(run, at, it),
-            Called::Splits(..) => self.makes(run, at, it),
-            Called::Makes(_) => self.makes(run, at, it),
+            Called::Duplicates(_) => {
+                let it = *it;
+                self.makes(run, at, &it)
+            }
+            Called::Splits(..) => {
+                let it = *it;
+                self.makes(run, at, &it)
+            }
+            Called::Makes(_) => {
+                let it = *it;
+                self.makes(run, at, &it)
+            }
             _ => self.take_wait(lines, at, it),
         }
     }

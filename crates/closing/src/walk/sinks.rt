@@ -149,6 +149,7 @@ fn sink_of(standing: &Standing, sinks: &Sinks, field: Field) -> Option<Wanted>
     }
 }
 
+#[inline(never)]
 fn name_some_sink(standing: &Standing, sinks: &Sinks, requests: &[Field]) -> bool
     ensures { result ≡ list_any (λ field. is_some (sink_at standing.now sinks.now field)) requests.now }
 {
@@ -223,6 +224,7 @@ fn push_items(
 impl Walk {
     /// Whether an entry stands for something else since a receive may have taken what it would take; puts that. Ends
     /// the list where it isn't known what it stands for, with the pending call if it never came back.
+    #[inline(always)]
     pub(super) fn takes_sink(
         &mut self,
         lines: &Lines,
@@ -244,7 +246,7 @@ impl Walk {
     }
 
     /// The same, where receives may be sinks.
-    #[inline(never)]
+    #[inline(always)]
     fn takes_sink_by(&mut self, lines: &Lines, at: &At<'_>, it: &Called<'_>) -> Result<bool, Stop>
         ensures same { self.new ≡ record self.old { list = self.new.list; sinks = self.new.sinks; pending = self.new.pending; left_out = self.new.left_out } }
         ensures takes { (spot : Spot) → Meets spot lines.now self.old.requests at.now it.now → spot.line ≡ self.old.line → ChoseBack spot at.now.came_back →
@@ -257,7 +259,10 @@ impl Walk {
                 let awaited = self.requests.unless_moved(*own, awaited);
                 self.starts_receive_sink(lines, at, *own, &awaited)
             }
-            Called::Exchanges(sent, awaited) => self.exchanges_sink(at, sent, awaited),
+            Called::Exchanges(sent, awaited) => {
+                let (sent, awaited) = (*sent, *awaited);
+                self.exchanges_sink(at, &sent, &awaited)
+            }
             Called::StartsExchange(own, other, sent, awaited) => {
                 let awaited = self.requests.unless_moved(*other, awaited);
                 let halves = Halves {
@@ -369,6 +374,7 @@ impl Walk {
     }
 
     /// Whether a message is known, and no sink may take it, since there is none.
+    #[inline(always)]
     fn is_plain(&self, found: Option<Message>) -> bool
         ensures known { result ≡ true → is_some (option_map message_view found) ≡ true }
         ensures none { result ≡ true → self.now.sinks.all.items ≡ [] }
@@ -377,6 +383,7 @@ impl Walk {
     }
 
     /// A receive or probe that blocks.
+    #[inline(always)]
     fn blocks_sink(&mut self, at: &At<'_>, awaited: &Awaited, leaves: Leaves) -> Result<bool, Stop>
         ensures same { self.new ≡ record self.old { list = self.new.list; sinks = self.new.sinks; pending = self.new.pending; left_out = self.new.left_out } }
         ensures takes { (spot : Spot) → IsAt spot at.now → spot.line ≡ self.old.line →
@@ -387,6 +394,19 @@ impl Walk {
         if self.is_plain(found) {
             return Ok(false);
         }
+        let awaited = *awaited;
+        self.blocks_met(at, &awaited, leaves)
+    }
+
+    /// The same where its message isn't known, or a sink may take it.
+    #[inline(never)]
+    fn blocks_met(&mut self, at: &At<'_>, awaited: &Awaited, leaves: Leaves) -> Result<bool, Stop>
+        ensures same { self.new ≡ record self.old { list = self.new.list; sinks = self.new.sinks; pending = self.new.pending; left_out = self.new.left_out } }
+        ensures takes { (spot : Spot) → IsAt spot at.now → spot.line ≡ self.old.line →
+            TakesSunk spot.line at.now.came_back (blocks_sunk spot at.now.came_back leaves (awaited_view awaited.now) (message_said (awaited_view awaited.now) spot.got))
+            (λ progress. message_pending (wants_in spot.size spot.number (awaited_view awaited.now) (message_said (awaited_view awaited.now) spot.got))) (λ progress. unknown) result self.old self.new }
+    {
+        let found = message_of(awaited, at.got);
         let Some(wants) = wants_of(at, awaited, found) else {
             return Ok(false);
         };
@@ -419,6 +439,7 @@ impl Walk {
         self.pends_for(wants.wanted)
     }
 
+    #[inline(never)]
     fn exchanges_sink(&mut self, at: &At<'_>, sent: &Sent, awaited: &Awaited) -> Result<bool, Stop>
         ensures same { self.new ≡ record self.old { list = self.new.list; sinks = self.new.sinks; pending = self.new.pending; left_out = self.new.left_out } }
         ensures takes { (spot : Spot) → IsAt spot at.now → spot.line ≡ self.old.line →
@@ -438,6 +459,7 @@ impl Walk {
         }
     }
 
+    #[inline(always)]
     fn starts_receive_sink(
         &mut self,
         lines: &Lines,
@@ -454,6 +476,25 @@ impl Walk {
         if self.is_plain(found) {
             return Ok(false);
         }
+        let awaited = *awaited;
+        self.starts_receive_met(lines, at, own, &awaited)
+    }
+
+    /// The same where its message isn't known, or a sink may take it.
+    #[inline(never)]
+    fn starts_receive_met(
+        &mut self,
+        lines: &Lines,
+        at: &At<'_>,
+        own: u32,
+        awaited: &Awaited,
+    ) -> Result<bool, Stop>
+        ensures same { self.new ≡ record self.old { list = self.new.list; sinks = self.new.sinks; left_out = self.new.left_out } }
+        ensures takes { (spot : Spot) → IsAt spot at.now → spot.line ≡ self.old.line → spot.lines ≡ lines.now → Tells spot.lines self.old.requests.outcomes →
+            TakesSunk spot.line at.now.came_back (starts_receive_sunk spot own (awaited_view awaited.now) (message_said (awaited_view awaited.now) (done_of spot.lines own)))
+            (λ progress. unknown) (λ progress. unknown) result self.old self.new }
+    {
+        let found = message_of(awaited, self.requests.message(lines, own));
         let Some(wants) = wants_of(at, awaited, found) else {
             return Ok(false);
         };
@@ -463,6 +504,7 @@ impl Walk {
         self.starts_sink(Some(own), &wants)
     }
 
+    #[inline(never)]
     fn starts_exchange_sink(
         &mut self,
         lines: &Lines,
@@ -496,6 +538,7 @@ impl Walk {
     // ---- Waits ----
 
     /// Whether one of some requests is a sink's.
+    #[inline(always)]
     fn name_sink(&self, requests: &[Field]) -> bool
         ensures { (lines : Items Line) (records : Items Written) → HasSinks records self.now.sinks → Tells lines self.now.requests.outcomes →
             AllStandFor lines self.now.requests (naturals_in requests.now) → result ≡ names_sink lines (naturals_in requests.now) records }
@@ -507,6 +550,7 @@ impl Walk {
     }
 
     /// Whether a wait or test ends the list, since it names a sink. As it went, one that came back stands for nothing.
+    #[inline(always)]
     fn ends_at_sink(&self, at: &At<'_>, requests: &[Field]) -> bool
         ensures { (lines : Items Line) (records : Items Written) → HasSinks records self.now.sinks → Tells lines self.now.requests.outcomes →
             AllStandFor lines self.now.requests (naturals_in requests.now) → result ≡ (not at.now.is_past && names_sink lines (naturals_in requests.now) records) }
@@ -518,6 +562,7 @@ impl Walk {
     }
 
     /// A wait for some requests is pending.
+    #[inline(never)]
     fn pends_for_requests(&mut self, requests: &[Field]) -> Result<(), AllocError>
         ensures same { self.new ≡ record self.old { pending = self.new.pending } }
         ensures pending { OnOk result (pending_said self.new.pending ≡ with_items self.old.pending (filter_map (item_at self.old.requests self.old.sinks self.old.list) requests.now)) }
@@ -541,6 +586,7 @@ impl Walk {
     }
 
     /// A test that completed a sink's request ends the list.
+    #[inline(never)]
     fn tests_sink(&mut self, at: &At<'_>, requests: &[Field]) -> Result<bool, Stop>
         ensures same { self.new ≡ self.old }
         ensures takes { (spot : Spot) → IsAt spot at.now → Tells spot.lines self.old.requests.outcomes → AllStandFor spot.lines self.old.requests (naturals_in requests.now) →
@@ -556,6 +602,7 @@ impl Walk {
     }
 
     /// A wait that names a sink ends the list.
+    #[inline(always)]
     fn waits_for_sink(&mut self, at: &At<'_>, requests: &[Field]) -> Result<bool, Stop>
         ensures same { self.new ≡ record self.old { pending = self.new.pending } }
         ensures takes { (spot : Spot) → IsAt spot at.now → Tells spot.lines self.old.requests.outcomes → AllStandFor spot.lines self.old.requests (naturals_in requests.now) →
@@ -585,6 +632,7 @@ impl Walk {
         Ok(false)
     }
 
+    #[inline(never)]
     fn chooses_sink(&mut self, at: &At<'_>, requests: &[Field]) -> Result<bool, Stop>
         ensures same { self.new ≡ record self.old { pending = self.new.pending } }
         ensures takes { (spot : Spot) → IsAt spot at.now → Tells spot.lines self.old.requests.outcomes → AllStandFor spot.lines self.old.requests (naturals_in requests.now) →

@@ -68,7 +68,7 @@ fn part(
 
 impl Walk {
     /// Puts the lines of an entry that is on no communicator.
-    #[inline(never)]
+    #[inline(always)]
     pub(super) fn take_wait(
         &mut self,
         lines: &Lines,
@@ -96,6 +96,7 @@ impl Walk {
     }
 
     /// A started matched receive stands for the message that it takes.
+    #[inline(never)]
     fn takes_matched(&mut self, request: u32, message: u32) -> Result<(), Stop>
         ensures same { self.new ≡ record self.old { requests = self.new.requests } }
         ensures outcomes { self.new.requests.outcomes ≡ self.old.requests.outcomes }
@@ -106,6 +107,7 @@ impl Walk {
         Ok(())
     }
 
+    #[inline(never)]
     fn waits(&mut self, at: &At<'_>, requests: &[Field]) -> Result<(), Stop>
         ensures same { self.new ≡ record self.old { list = self.new.list; ids = self.new.ids } }
         ensures takes { (spot : Spot) → IsAt spot at.now → Tells spot.lines self.old.requests.outcomes →
@@ -126,6 +128,7 @@ impl Walk {
         self.choice.tests == Tests::Pass && self.choice.calls == Calls::Strict
     }
 
+    #[inline(never)]
     fn tests(&mut self, at: &At<'_>, requests: &[Field]) -> Result<(), Stop>
         ensures same { self.new ≡ record self.old { list = self.new.list; ids = self.new.ids; wanted = self.new.wanted; late = self.new.late } }
         ensures takes { (spot : Spot) → IsAt spot at.now → Tells spot.lines self.old.requests.outcomes →
@@ -190,6 +193,7 @@ impl Walk {
         }
     }
 
+    #[inline(never)]
     fn waits_any(&mut self, at: &At<'_>, requests: &[Field]) -> Result<(), Stop>
         ensures same { self.new ≡ record self.old { list = self.new.list; ids = self.new.ids; wanted = self.new.wanted } }
         ensures takes { (spot : Spot) → IsAt spot at.now → Tells spot.lines self.old.requests.outcomes →
@@ -207,6 +211,7 @@ impl Walk {
         }
     }
 
+    #[inline(never)]
     fn waits_some(&mut self, at: &At<'_>, requests: &[Field]) -> Result<(), Stop>
         ensures same { self.new ≡ record self.old { list = self.new.list; ids = self.new.ids } }
         ensures takes { (spot : Spot) → IsAt spot at.now → Tells spot.lines self.old.requests.outcomes →
@@ -225,6 +230,7 @@ impl Walk {
     }
 
     /// A cancel of which it isn't known what came.
+    #[inline(never)]
     fn cancels(&mut self, request: u32) -> Result<(), Stop>
         ensures same { self.new ≡ self.old }
         ensures takes { (spot : Spot) → Tells spot.lines self.old.requests.outcomes → Takes spot (cancels_on spot request) result self.old.list self.new.list }

@@ -7,7 +7,7 @@ use Rattle.closing.specs.RankComms.{wave_next}
 use Rattle.closing.specs.inner.Holds.{key_kept, waves_with}
 use Rattle.closing.specs.inner.Views.{called_view}
 use Rattle.closing.proofs.HoldsLemmas.{counted_grows, place_grows, wave_grows}
-use Rattle.closing.proofs.rank_comms.RankComms.take_call.Goals as goal
+use Rattle.closing.proofs.rank_comms.RankComms.take_counted.Goals as goal
 
 pub returns-clause-comms : goal.returns-clause-comms
 returns-clause-comms c comms is on =
