@@ -2,7 +2,7 @@
 
 ghost use Rattle.std.specs.Prelude.{◌≡◌, ◌+◌, ◌<◌, ◌^◌, ℕ, [], ◌∷◌, ◌++◌, true, Some, None, IsTrue, OnOk, length, drop, List as Items, ◌≤◌, ◌⊎◌, false, IfOk, option_map, slice_get};
 ghost use Rattle.mpicall.specs.Limits.{in_ranges};
-ghost use Rattle.mpicall.specs.declared.call.Call.TheVariants.{Open};
+ghost use Rattle.mpicall.specs.declared.call.Call.TheVariants.{Finalize, Open};
 ghost use Rattle.journals.specs.Taking.{word_at, fields_at as fields_in};
 ghost use Rattle.journals.specs.declared.word.ReportWord.{ReportWord as Reported};
 ghost use Rattle.journals.specs.declared.word.Word.TheVariants.{Report};
@@ -325,6 +325,26 @@ impl Walk {
         self.list.put(&end)
     }
 
+    /// Leaves the list open at the journal's end.
+    #[inline(never)]
+    fn finish_open(&mut self) -> Result<(), AllocError>
+        ensures same { self.new ≡ record self.old { list = self.new.list; is_over = true } }
+        ensures end { OnOk result (IsTrue (in_ranges Open) → self.new.list.records ≡ self.old.list.records ++ Open ∷ []) }
+        ensures freed { self.new.list.freed ≡ self.old.list.freed }
+    {
+        self.finish(Call::Open)
+    }
+
+    /// Ends the list with the rank's calls.
+    #[inline(never)]
+    fn finish_calls(&mut self) -> Result<(), AllocError>
+        ensures same { self.new ≡ record self.old { list = self.new.list; is_over = true } }
+        ensures end { OnOk result (IsTrue (in_ranges Finalize) → self.new.list.records ≡ self.old.list.records ++ Finalize ∷ []) }
+        ensures freed { self.new.list.freed ≡ self.old.list.freed }
+    {
+        self.finish(Call::Finalize)
+    }
+
     // ---- What there is of the list ----
 
     /// The records that weren't handed on yet, all of one entry.
@@ -475,7 +495,7 @@ impl Walk {
         self.before = self.handed.saturating_add(waiting);
         let Some(word) = call_at(lines, self.next) else {
             self.line = 0;
-            return self.finish(Call::Open);
+            return self.finish_open();
         };
         let entry = Entry {
             place: self.next,
@@ -485,7 +505,7 @@ impl Walk {
         self.line = line_number(entry.place);
         self.next = entry.reports.end;
         match self.take_entry(run, lines, &entry) {
-            Ok(true) => self.finish(Call::Finalize),
+            Ok(true) => self.finish_calls(),
             Ok(false) => Ok(()),
             Err(Stop::Left(why)) => self.leave(why),
             Err(Stop::Memory) => Err(AllocError),

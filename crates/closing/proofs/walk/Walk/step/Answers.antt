@@ -16,7 +16,7 @@ use Rattle.closing.proofs.TableLemmas.{grows_same}
 use Rattle.closing.proofs.walk.Walk.step.Goals as goal
 
 pub returns-in_default-clause-walk : goal.returns-in_default-clause-walk
-returns-in_default-clause-walk c = with_ok _ _ c.finish.result (λ end. λ said heading fit numbered few there goes walk.
+returns-in_default-clause-walk c = with_ok _ _ c.finish_open.result (λ end. λ said heading fit numbered few there goes walk.
     let s = c.args.self.now in
     let lines = c.args.lines.now in
     let journal : Journal = record { heading = heading; lines = lines } in
@@ -26,23 +26,23 @@ returns-in_default-clause-walk c = with_ok _ _ c.finish.result (λ end. λ said 
     let small = count_small said choice journal kept.keys s so there in
     let count : length c.records-waiting.result.now ≡ length s.list.records = ap length c.records-waiting.ensures in
     let before : c.saturating_add-self.result ≡ s.handed + length s.list.records = omega (arith, small, count) in
-    let new = c.finish.new.self in
-    let same = c.finish.ensures.same in
+    let new = c.finish_open.new.self in
+    let same = c.finish_open.ensures.same in
     let none : (word : CallWord) → word_at lines s.next ≡ Some (CallLine word) → ⊥ = λ word at.
     c.in_default.not-Some word (c.call_at.ensures ∙ ap call_if at) in (
       step_opens said choice journal kept s fit numbered few there goes walk new none
           (ap (λ (it : Walk). it.rank) same) (ap (λ (it : Walk). it.handed) same) (ap (λ (it : Walk). it.before) same ∙ before) (ap (λ (it : Walk). it.line) same)
-          (ap (λ (it : Walk). it.left) same) (ap (λ (it : Walk). it.is_over) same) (end refl) c.finish.ensures.freed
+          (ap (λ (it : Walk). it.left) same) (ap (λ (it : Walk). it.is_over) same) (end refl) c.finish_open.ensures.freed
           (record { sinks = ap (λ (it : Walk). it.sinks) same; pending = ap (λ (it : Walk). it.pending) same; left_out = ap (λ (it : Walk). it.left_out) same }),
       grows_same kept.keys so.comms.table_is,
-    )) c.finish.ensures.end
+    )) c.finish_open.ensures.end
 
 pub returns-in_default-clause-more : goal.returns-in_default-clause-more
-returns-in_default-clause-more c = with_ok _ _ c.finish.result (λ end said heading fit numbered few there goes walk.
-    one_more c.args.self.now.list.records c.finish.new.self.list.records Open (end refl)) c.finish.ensures.end
+returns-in_default-clause-more c = with_ok _ _ c.finish_open.result (λ end said heading fit numbered few there goes walk.
+    one_more c.args.self.now.list.records c.finish_open.new.self.list.records Open (end refl)) c.finish_open.ensures.end
 
 pub returns-in-Ok-true-clause-walk : goal.returns-in-Ok-true-clause-walk
-returns-in-Ok-true-clause-walk c = with_ok _ _ c.finish-in-Ok-true.result (λ end. λ said heading fit numbered few there goes walk.
+returns-in-Ok-true-clause-walk c = with_ok _ _ c.finish_calls.result (λ end. λ said heading fit numbered few there goes walk.
     let s = c.args.self.now in
     let lines = c.args.lines.now in
     let journal : Journal = record { heading = heading; lines = lines } in
@@ -67,10 +67,10 @@ returns-in-Ok-true-clause-walk c = with_ok _ _ c.finish-in-Ok-true.result (λ en
     (is_before said choice journal kept s fit numbered few there goes walk word call c.saturating_add-self.result c.line_number-self.result reports before line are)
     (is_ready said choice journal kept s fit numbered few there goes walk word call c.saturating_add-self.result c.line_number-self.result reports before line are) in
     let is : c.take_entry.result ≡ Ok true = cc (c.in-Ok-true.is, c.in-Ok-true.field-0-test) in
-    step_ends said choice journal kept s fit numbered few there goes walk word call c.saturating_add-self.result c.line_number-self.result reports before line are now c.take_entry.result one c.take_entry.ensures.same entered c.finish-in-Ok-true.new.self is c.finish-in-Ok-true.ensures.same (end refl) c.finish-in-Ok-true.ensures.freed) c.finish-in-Ok-true.ensures.end
+    step_ends said choice journal kept s fit numbered few there goes walk word call c.saturating_add-self.result c.line_number-self.result reports before line are now c.take_entry.result one c.take_entry.ensures.same entered c.finish_calls.new.self is c.finish_calls.ensures.same (end refl) c.finish_calls.ensures.freed) c.finish_calls.ensures.end
 
 pub returns-in-Ok-true-clause-more : goal.returns-in-Ok-true-clause-more
-returns-in-Ok-true-clause-more c = with_ok _ _ c.finish-in-Ok-true.result (λ end. λ said heading fit numbered few there goes walk.
+returns-in-Ok-true-clause-more c = with_ok _ _ c.finish_calls.result (λ end. λ said heading fit numbered few there goes walk.
     let s = c.args.self.now in
     let lines = c.args.lines.now in
     let journal : Journal = record { heading = heading; lines = lines } in
@@ -95,8 +95,8 @@ returns-in-Ok-true-clause-more c = with_ok _ _ c.finish-in-Ok-true.result (λ en
     (is_before said choice journal kept s fit numbered few there goes walk word call c.saturating_add-self.result c.line_number-self.result reports before line are)
     (is_ready said choice journal kept s fit numbered few there goes walk word call c.saturating_add-self.result c.line_number-self.result reports before line are) in
     let is : c.take_entry.result ≡ Ok true = cc (c.in-Ok-true.is, c.in-Ok-true.field-0-test) in
-    one_more_than s.list.records one.list.records c.finish-in-Ok-true.new.self.list.records Finalize
-    (step_more said choice journal kept s fit numbered few there goes walk word call c.saturating_add-self.result c.line_number-self.result reports before line are now c.take_entry.result one c.take_entry.ensures.same entered (Ok true) is (λ out. cc (out))) (end refl)) c.finish-in-Ok-true.ensures.end
+    one_more_than s.list.records one.list.records c.finish_calls.new.self.list.records Finalize
+    (step_more said choice journal kept s fit numbered few there goes walk word call c.saturating_add-self.result c.line_number-self.result reports before line are now c.take_entry.result one c.take_entry.ensures.same entered (Ok true) is (λ out. cc (out))) (end refl)) c.finish_calls.ensures.end
 
 pub returns-in-Ok-false-clause-walk : goal.returns-in-Ok-false-clause-walk
 returns-in-Ok-false-clause-walk c = λ said heading fit numbered few there goes walk.
@@ -225,20 +225,20 @@ returns-in-Err-Left-clause-more c = with_ok _ _ c.leave.result (λ end. λ said 
     (step_more said choice journal kept s fit numbered few there goes walk word call c.saturating_add-self.result c.line_number-self.result reports before line are now c.take_entry.result one c.take_entry.ensures.same entered (Err (Left c.in-Err-Left.why)) is (λ out. cc (out))) end) c.leave.ensures.end
 
 pub returns-in_default-clause-rank : goal.returns-in_default-clause-rank
-returns-in_default-clause-rank c = (ap (λ (it : Walk). it.rank) c.finish.ensures.same, ap (λ (it : Walk). it.choice) c.finish.ensures.same)
+returns-in_default-clause-rank c = (ap (λ (it : Walk). it.rank) c.finish_open.ensures.same, ap (λ (it : Walk). it.choice) c.finish_open.ensures.same)
 
 pub returns-in_default-clause-handed : goal.returns-in_default-clause-handed
-returns-in_default-clause-handed c = ap (λ (it : Walk). it.handed) c.finish.ensures.same
+returns-in_default-clause-handed c = ap (λ (it : Walk). it.handed) c.finish_open.ensures.same
 
 pub returns-in-Ok-true-clause-rank : goal.returns-in-Ok-true-clause-rank
 returns-in-Ok-true-clause-rank c = (
-  ap (λ (it : Walk). it.rank) c.finish-in-Ok-true.ensures.same ∙ ap (λ (it : Walk). it.rank) c.take_entry.ensures.same,
-  ap (λ (it : Walk). it.choice) c.finish-in-Ok-true.ensures.same ∙ ap (λ (it : Walk). it.choice) c.take_entry.ensures.same,
+  ap (λ (it : Walk). it.rank) c.finish_calls.ensures.same ∙ ap (λ (it : Walk). it.rank) c.take_entry.ensures.same,
+  ap (λ (it : Walk). it.choice) c.finish_calls.ensures.same ∙ ap (λ (it : Walk). it.choice) c.take_entry.ensures.same,
 )
 
 pub returns-in-Ok-true-clause-handed : goal.returns-in-Ok-true-clause-handed
 returns-in-Ok-true-clause-handed c =
-    ap (λ (it : Walk). it.handed) c.finish-in-Ok-true.ensures.same ∙ ap (λ (it : Walk). it.handed) c.take_entry.ensures.same
+    ap (λ (it : Walk). it.handed) c.finish_calls.ensures.same ∙ ap (λ (it : Walk). it.handed) c.take_entry.ensures.same
 
 pub returns-in-Err-Left-clause-rank : goal.returns-in-Err-Left-clause-rank
 returns-in-Err-Left-clause-rank c = (
