@@ -9,7 +9,7 @@
 //! - `next_call::NextCall` is a call with what it does, found out once. `envelope` tells messages and their
 //!   envelopes (`Envelopes`), `request` requests (`Requests`), `comm` communicators (`Communicators`) and `wave`
 //!   which wave a call joins (`Waves`).
-//! - `often` numbers the kinds of calls that come often, for which the crates above have paths of their own.
+//! - `hot` numbers the kinds of calls that come often, for which the crates above have paths of their own.
 //! - `place_lists::PlaceLists` has lists of places by numbers.
 //! - Laws of waves, each on a function that does nothing: a wave has at most one call of each rank, and waves stay as
 //!   a recording goes on.

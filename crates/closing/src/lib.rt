@@ -4,7 +4,7 @@
 //! list of each rank entry by entry, so that no list is ever there as a whole. `Recording::step` takes the
 //! next entry of a rank, and `Recording::records` has its records until they are handed on.
 //!
-//! What each module keeps, and the definitions that it is to be proved against:
+//! What each module keeps, and the definitions that it is proved against:
 //!
 //! | module | what it keeps | definitions |
 //! |---|---|---|

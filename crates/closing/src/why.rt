@@ -28,7 +28,7 @@ pub enum Why {
     /// The journal of another rank goes on after the cut.
     #[error("cut")]
     Cut,
-    /// It may have taken what another receive took.
+    /// It may have taken what another receive took, or it waited for one that may have.
     #[error("not judged")]
     NotJudged,
     /// The rank has no journal.

@@ -1,4 +1,4 @@
-//! The limits of a trace, each standing here once; definitions cite these constants.
+//! The limits of a trace. The definitions give them in numbers; a law says that these are the same.
 
 ghost use Rattle.mpicall.specs.Limits.{TheLimitsOfATrace};
 

@@ -148,6 +148,8 @@ fn args_in_ranges(call_args: CallArgs) -> bool
     }
 }
 
+/// Whether each field of a call is in its range. Inlined: where the call is known, only its own fields are asked.
+#[inline(always)]
 pub(crate) fn is_in_ranges(call: &Call) -> bool
     ensures { result ≡ in_ranges call.now }
 {

@@ -1,4 +1,4 @@
-//! The limits of a head, each standing here once; definitions cite these constants.
+//! The limits of a head. The definitions give them in numbers; a law says that these are the same.
 
 ghost use Rattle.mpigroup.specs.HeadText.{TheLimitsOfAHead};
 
