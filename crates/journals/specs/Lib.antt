@@ -1,4 +1,5 @@
 pub mod Codes
+pub mod Limits
 pub mod Text
 pub mod Inputs
 pub mod Words

@@ -1,20 +1,29 @@
 -- The codes and the words under which faults are reported.
-use Rattle.std.specs.Prelude.{ℕ, List, [], ◌++◌, map, get_or, codes}
+use Rattle.std.specs.Prelude.{ℕ, List, ◌++◌, codes}
 use Rattle.std.specs.Fmt.{decimal}
-use denote.Enum.Declared.{tag_of}
-use Rattle.mpicall.specs.contracts.fault.LineFault.{the_type}
 use Rattle.mpicall.specs.declared.fault.LineFault.{LineFault}
+use Rattle.mpicall.specs.declared.fault.LineFault.TheVariants.{EmptyField, UnknownWord, FieldCount, FieldForm, Wildcard, TooLong, NoLineFeed}
 use Rattle.mpicall.specs.declared.fault.SourceFault.{SourceFault}
 use Rattle.mpicall.specs.declared.fault.SourceFault.TheVariants.{Line, TextAfterFinalize, NoFinalize, ReadFailed, GateStopped, ThreadNotStarted}
-use Rattle.mpicall.specs.declared.fault.TheConstants.{LINE_FAULTS}
 use Rattle.mpicall.specs.declared.lint.LintFault.{LintFault}
 
--- what the table of faults of a line says of a fault
 abbrev pub code_of_line : LineFault → List ℕ
-code_of_line fault = get_or (map (λ row. row.0.now) LINE_FAULTS) (tag_of the_type fault) []
+code_of_line EmptyField = codes "L1"
+code_of_line UnknownWord = codes "L2"
+code_of_line FieldCount = codes "L3"
+code_of_line FieldForm = codes "L4"
+code_of_line Wildcard = codes "L5"
+code_of_line TooLong = codes "L6"
+code_of_line NoLineFeed = codes "L7"
 
 abbrev pub words_of_line : LineFault → List ℕ
-words_of_line fault = get_or (map (λ row. row.1.now) LINE_FAULTS) (tag_of the_type fault) []
+words_of_line EmptyField = codes "empty field"
+words_of_line UnknownWord = codes "unknown word"
+words_of_line FieldCount = codes "number of fields"
+words_of_line FieldForm = codes "field out of form or range"
+words_of_line Wildcard = codes "wildcard"
+words_of_line TooLong = codes "line too long"
+words_of_line NoLineFeed = codes "no line feed"
 
 abbrev pub code_of_source : SourceFault → List ℕ
 code_of_source (Line fault) = code_of_line fault

@@ -26,17 +26,6 @@ pub enum LineFault {
     NoLineFeed,
 }
 
-/// The code and the words of each fault of a line: a row each, in the order of the variants of `LineFault`.
-pub const LINE_FAULTS: [(&str, &str); 7] = [
-    ("L1", "empty field"),
-    ("L2", "unknown word"),
-    ("L3", "number of fields"),
-    ("L4", "field out of form or range"),
-    ("L5", "wildcard"),
-    ("L6", "line too long"),
-    ("L7", "no line feed"),
-];
-
 /// Why a source of records has no next one.
 #[derive(Clone, Copy, Debug, PartialEq, Eq)]
 pub enum SourceFault {
@@ -64,13 +53,35 @@ pub enum Ending {
 }
 
 impl LineFault {
-    ghost use Rattle.mpicall.specs.Codes.{code_of_line};
+    ghost use Rattle.mpicall.specs.Codes.{code_of_line, words_of_line};
 
     /// The code under which the fault is reported.
     pub fn code(self) -> &'static str
         ensures { result.now ≡ code_of_line self }
     {
-        LINE_FAULTS[self as usize].0
+        match self {
+            LineFault::EmptyField => "L1",
+            LineFault::UnknownWord => "L2",
+            LineFault::FieldCount => "L3",
+            LineFault::FieldForm => "L4",
+            LineFault::Wildcard => "L5",
+            LineFault::TooLong => "L6",
+            LineFault::NoLineFeed => "L7",
+        }
+    }
+
+    fn words(self) -> &'static str
+        ensures { result.now ≡ words_of_line self }
+    {
+        match self {
+            LineFault::EmptyField => "empty field",
+            LineFault::UnknownWord => "unknown word",
+            LineFault::FieldCount => "number of fields",
+            LineFault::FieldForm => "field out of form or range",
+            LineFault::Wildcard => "wildcard",
+            LineFault::TooLong => "line too long",
+            LineFault::NoLineFeed => "no line feed",
+        }
     }
 }
 
@@ -80,7 +91,7 @@ impl fmt::Display for LineFault {
     ghost output = { λ fault. Some (words_of_line fault) };
 
     fn fmt<W: fmt::Write>(&self, f: &mut fmt::Formatter<W>) -> fmt::Result {
-        write!(f, "{}", LINE_FAULTS[*self as usize].1)
+        write!(f, "{}", self.words())
     }
 }
 

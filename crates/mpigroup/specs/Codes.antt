@@ -1,20 +1,28 @@
 -- How the faults of a head are told.
-use Rattle.std.specs.Prelude.{◌≡◌, ℕ, Result, Err, List, [], ◌++◌, map, get_or, codes, ⊤}
+use Rattle.std.specs.Prelude.{◌≡◌, ℕ, Result, Err, List, ◌++◌, codes, ⊤}
 use Rattle.std.specs.Fmt.{decimal}
-use denote.Enum.Declared.{tag_of}
-use Rattle.mpigroup.specs.contracts.fault.HeadFaultKind.{the_type}
 use Rattle.mpigroup.specs.declared.fault.HeadFault.{HeadFault}
 use Rattle.mpigroup.specs.declared.fault.HeadFaultKind.{HeadFaultKind}
+use Rattle.mpigroup.specs.declared.fault.HeadFaultKind.TheVariants.{FirstLine, RankCount, CommLine, Group, TooManyComms, LineForm}
 use Rattle.mpigroup.specs.declared.fault.ReadFault.{ReadFault}
 use Rattle.mpigroup.specs.declared.fault.ReadFault.TheVariants.{Text, Memory}
-use Rattle.mpigroup.specs.declared.fault.TheConstants.{HEAD_FAULTS}
 
 -- the code and the words of a fault
 abbrev pub code_of_head : HeadFaultKind → List ℕ
-code_of_head kind = get_or (map (λ row. row.0.now) HEAD_FAULTS) (tag_of the_type kind) []
+code_of_head FirstLine = codes "H1"
+code_of_head RankCount = codes "H2"
+code_of_head CommLine = codes "H3"
+code_of_head Group = codes "H4"
+code_of_head TooManyComms = codes "H5"
+code_of_head LineForm = codes "H6"
 
 abbrev pub words_of_head : HeadFaultKind → List ℕ
-words_of_head kind = get_or (map (λ row. row.1.now) HEAD_FAULTS) (tag_of the_type kind) []
+words_of_head FirstLine = codes "first line"
+words_of_head RankCount = codes "number of ranks"
+words_of_head CommLine = codes "comm line"
+words_of_head Group = codes "group"
+words_of_head TooManyComms = codes "too many communicators"
+words_of_head LineForm = codes "line length or end"
 
 -- and the line before them
 abbrev pub text_of_head : HeadFault → List ℕ

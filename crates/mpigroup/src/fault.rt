@@ -26,16 +26,6 @@ pub enum HeadFaultKind {
     LineForm,
 }
 
-/// The code and the words of each fault: a row each, in the order of the variants of `HeadFaultKind`.
-pub const HEAD_FAULTS: [(&str, &str); 6] = [
-    ("H1", "first line"),
-    ("H2", "number of ranks"),
-    ("H3", "comm line"),
-    ("H4", "group"),
-    ("H5", "too many communicators"),
-    ("H6", "line length or end"),
-];
-
 /// The first line of a head with a fault, counted from 1, and what is wrong with it.
 #[derive(Clone, Copy, Debug, PartialEq, Eq)]
 pub struct HeadFault {
@@ -59,7 +49,14 @@ impl HeadFaultKind {
     pub fn code(self) -> &'static str
         ensures { result.now ≡ code_of_head self }
     {
-        HEAD_FAULTS[self as usize].0
+        match self {
+            HeadFaultKind::FirstLine => "H1",
+            HeadFaultKind::RankCount => "H2",
+            HeadFaultKind::CommLine => "H3",
+            HeadFaultKind::Group => "H4",
+            HeadFaultKind::TooManyComms => "H5",
+            HeadFaultKind::LineForm => "H6",
+        }
     }
 
     /// This fault, at a line.
@@ -68,13 +65,26 @@ impl HeadFaultKind {
     {
         ReadFault::Text(HeadFault { line, kind: self })
     }
+
+    fn words(self) -> &'static str
+        ensures { result.now ≡ words_of_head self }
+    {
+        match self {
+            HeadFaultKind::FirstLine => "first line",
+            HeadFaultKind::RankCount => "number of ranks",
+            HeadFaultKind::CommLine => "comm line",
+            HeadFaultKind::Group => "group",
+            HeadFaultKind::TooManyComms => "too many communicators",
+            HeadFaultKind::LineForm => "line length or end",
+        }
+    }
 }
 
 impl fmt::Display for HeadFaultKind {
     ghost output = { λ kind. Some (words_of_head kind) };
 
     fn fmt<W: fmt::Write>(&self, f: &mut fmt::Formatter<W>) -> fmt::Result {
-        write!(f, "{}", HEAD_FAULTS[*self as usize].1)
+        write!(f, "{}", self.words())
     }
 }
 

@@ -30,25 +30,38 @@ pub enum CallFault {
     WrongNewCommunicator,
 }
 
-/// The code and the words of each fault: a row each, in the order of the variants of `CallFault`.
-pub const CALL_FAULTS: [(&str, &str); 9] = [
-    ("C9", "call after finalize"),
-    ("C8", "too many calls"),
-    ("C1", "unknown communicator"),
-    ("C2", "communicator not held"),
-    ("C3", "peer or root out of group"),
-    ("C4", "request in use"),
-    ("C6", "request repeated"),
-    ("C5", "request not active"),
-    ("C7", "wrong new communicator"),
-];
-
 impl CallFault {
     /// The code under which the program reports the fault.
     pub fn code(self) -> &'static str
         ensures { result.now ≡ code_of_call self }
     {
-        CALL_FAULTS[self as usize].0
+        match self {
+            CallFault::CallAfterFinalize => "C9",
+            CallFault::TooManyCalls => "C8",
+            CallFault::UnknownCommunicator => "C1",
+            CallFault::CommunicatorNotHeld => "C2",
+            CallFault::PeerOutOfGroup => "C3",
+            CallFault::RequestInUse => "C4",
+            CallFault::RequestRepeated => "C6",
+            CallFault::RequestNotActive => "C5",
+            CallFault::WrongNewCommunicator => "C7",
+        }
+    }
+
+    fn words(self) -> &'static str
+        ensures { result.now ≡ words_of_call self }
+    {
+        match self {
+            CallFault::CallAfterFinalize => "call after finalize",
+            CallFault::TooManyCalls => "too many calls",
+            CallFault::UnknownCommunicator => "unknown communicator",
+            CallFault::CommunicatorNotHeld => "communicator not held",
+            CallFault::PeerOutOfGroup => "peer or root out of group",
+            CallFault::RequestInUse => "request in use",
+            CallFault::RequestRepeated => "request repeated",
+            CallFault::RequestNotActive => "request not active",
+            CallFault::WrongNewCommunicator => "wrong new communicator",
+        }
     }
 }
 
@@ -56,7 +69,7 @@ impl fmt::Display for CallFault {
     ghost output = { λ fault. Some (words_of_call fault) };
 
     fn fmt<W: fmt::Write>(&self, f: &mut fmt::Formatter<W>) -> fmt::Result {
-        write!(f, "{}", CALL_FAULTS[*self as usize].1)
+        write!(f, "{}", self.words())
     }
 }
 
