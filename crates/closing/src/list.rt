@@ -3,7 +3,7 @@
 ghost use Rattle.std.specs.Prelude.{◌≡◌, ◌<◌, ◌≤◌, ◌+◌, [], ◌∷◌, ◌++◌, ℕ, List as Items, map, take, drop, length, slice_index, true, false, IsTrue, IfOk, OnOk};
 ghost use Rattle.mpicall.specs.Limits.{in_ranges};
 ghost use Rattle.closing.specs.inner.Free.{AreNumbered, KeepsFree, Requests, TakesLeast};
-ghost use Rattle.closing.specs.inner.Lists.{Adds, AreApart, AreHeld, AreSmall, ComesTo, FindsOnly, FreesOnly, Handed, HasIds, IsUnnamed, KeepsLines, KeepsRecords, Owns, Puts, Stands, TakesFree, TakesNumbers, TakesOne, found_call, found_number, has_place, is_send_in, is_start_of_send, start_call};
+ghost use Rattle.closing.specs.inner.Lists.{Adds, AreApart, AreHeld, AreSmall, ComesTo, FindsOnly, FreesOnly, Handed, HasIds, IsUnnamed, KeepsLines, KeepsRecords, Owns, Puts, Stands, TakesFree, TakesNumbers, TakesOne, found_number, has_place, is_send_in, is_start_of_send, start_call};
 ghost use Rattle.closing.specs.inner.Started.{active_at};
 ghost use Rattle.closing.specs.Steps.{Does, Id, Own, Progress, Starts, WaitsForAll, WaitsForOne, after_step, has_number, least_free, number_in, numbers_of, wait_for, wait_for_one, waits_for, without, without_all};
 
@@ -130,20 +130,6 @@ fn number_at(numbers: &[u32], place: usize) -> u32
     ensures { result ≡ slice_index numbers.now place }
 {
     numbers[place]
-}
-
-/// The wait for so many requests, where there are some.
-#[tactic(auto, using(crate::proofs::WaitLemmas::one_wait, crate::proofs::WaitLemmas::several_wait, crate::proofs::WaitLemmas::none_wait))]
-fn wait_of(numbers: &[u32]) -> Option<Call>
-    ensures { length numbers.now ≤ MOST_REQUESTS → found_call result ≡ wait_for numbers.now }
-{
-    if numbers.len() == 1 {
-        return Some(Call::Wait { req: numbers[0] });
-    }
-    match Reqs::new(numbers) {
-        Some(reqs) => Some(Call::Waitall { reqs }),
-        None => None,
-    }
 }
 
 /// The wait for one of these, which completed it; a wait for it alone where it isn't among them.
@@ -375,8 +361,13 @@ impl List {
     fn waits_from(&mut self, start: usize) -> Result<(), Stop>
         ensures { AreSmall self.old.numbers.items → self.old.count < MOST_RECORDS → Adds result self.old self.new (wait_for (take MOST_REQUESTS (drop start self.old.numbers.items))) }
     {
-        match wait_of(group_from(self.numbers.as_slice(), start, MOST_REQUESTS)) {
-            Some(call) => self.add(&call),
+        let numbers = group_from(self.numbers.as_slice(), start, MOST_REQUESTS);
+        if numbers.len() == 1 {
+            let req = numbers[0];
+            return self.add(&Call::Wait { req });
+        }
+        match Reqs::new(numbers) {
+            Some(reqs) => self.add(&Call::Waitall { reqs }),
             None => Ok(()),
         }
     }
@@ -393,6 +384,7 @@ impl List {
     }
 
     /// Puts the waits for those of some requests that are active.
+    #[inline(never)]
     pub(crate) fn waits_for(&mut self, ids: &[u32]) -> Result<(), Stop>
         ensures { (handed : Handed) (progress : Progress) (line : ℕ) → Stands handed progress self.old → ComesTo result handed (after_step progress line (WaitsForAll (map Own ids.now))) line self.new }
     {

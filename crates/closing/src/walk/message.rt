@@ -6,7 +6,7 @@ ghost use Rattle.closing.specs.inner.Lists.{start_call};
 ghost use Rattle.closing.specs.Reported.{message_can_be, message_of as message_said, peer_can_be, tag_can_be};
 ghost use Rattle.closing.specs.inner.Views.{awaited_view, message_view, sent_view};
 ghost use Rattle.closing.specs.inner.Walked.{AwaitedOr, IsAt, Takes, known_or, number_at as number_of_at, number_or, size_at};
-ghost use Rattle.closing.specs.inner.Walks.{Spot, exchanges_at, exchanges_on, probes_at, probes_matching_on, probes_on, receives_after, receives_on, sends_on, starts_at, starts_exchange_on, starts_receive_on, starts_send_on};
+ghost use Rattle.closing.specs.inner.Walks.{Spot, does_at, exchanges_at, exchanges_on, probes_at, probes_matching_on, probes_on, receives_after, receives_on, sends_on, starts_at, starts_exchange_on, starts_receive_on, starts_send_on};
 ghost use Rattle.closing.specs.Sinks.{GoesOn};
 ghost use Rattle.closing.specs.inner.RequestReports.{Tells};
 ghost use Rattle.closing.specs.Endings.{awaited_can_be as awaited_may_be, sent_can_be as sent_may_be};
@@ -128,7 +128,8 @@ impl Walk {
         self.list.does(&send_line(mode, comm, sent))
     }
 
-    #[inline(never)]
+    /// Inlined, as is what receives and waits do first: of where the call stands this needs the communicator alone.
+    #[inline(always)]
     pub(super) fn starts_send(
         &mut self,
         at: &At<'_>,
@@ -145,6 +146,7 @@ impl Walk {
     }
 
     /// Puts a line that starts a request, unless that was cancelled.
+    #[inline(never)]
     pub(super) fn starts_unless_gone(&mut self, own: u32, start: Start) -> Result<(), Stop>
         ensures same { self.new ≡ record self.old { list = self.new.list } }
         ensures takes { (spot : Spot) → Tells spot.lines self.old.requests.outcomes →
@@ -157,6 +159,7 @@ impl Walk {
     }
 
     /// The number of the communicator and the message of a receive or probe that blocks.
+    #[inline(always)]
     fn awaited(&self, at: &At<'_>, awaited: &Awaited) -> Result<(u16, Message), Stop>
         ensures { AwaitedOr result (number_or (awaited_may_be (size_at at.now) (awaited_view awaited.now, option_map message_view at.now.got)) (number_of_at at.now))
             (message_said (awaited_view awaited.now) (option_map message_view at.now.got)) }
@@ -166,19 +169,29 @@ impl Walk {
         Ok((comm, known(message)?))
     }
 
+    /// Puts the receive of a message; its start, where the entry stands for what it started alone.
     #[inline(never)]
+    fn receives_message(&mut self, is_past: bool, comm: u16, message: &Message) -> Result<(), Stop>
+        ensures same { self.new ≡ record self.old { list = self.new.list } }
+        ensures takes { (spot : Spot) → spot.is_past ≡ is_past → IsTrue (peer_can_be 1024 message.now.source) →
+            Takes spot (GoesOn (does_at spot (receive comm (message_view message.now)) (start_receive comm (message_view message.now)))) result self.old.list self.new.list }
+    {
+        if is_past {
+            return self.list.starts_unnamed(start_of_receive(comm, message));
+        }
+        self.list.does(&receive_line(comm, message))
+    }
+
+    #[inline(always)]
     pub(super) fn receives(&mut self, at: &At<'_>, awaited: &Awaited) -> Result<(), Stop>
         ensures same { self.new ≡ record self.old { list = self.new.list } }
         ensures takes { (spot : Spot) → IsAt spot at.now → Takes spot (receives_on spot (awaited_view awaited.now)) result self.old.list self.new.list }
     {
         let (comm, message) = self.awaited(at, awaited)?;
-        if at.is_past {
-            return self.list.starts_unnamed(start_of_receive(comm, &message));
-        }
-        self.list.does(&receive_line(comm, &message))
+        self.receives_message(at.is_past, comm, &message)
     }
 
-    #[inline(never)]
+    #[inline(always)]
     pub(super) fn starts_receive(
         &mut self,
         lines: &Lines,
@@ -196,6 +209,7 @@ impl Walk {
     }
 
     /// Puts the line that starts a receive, unless that was cancelled or its message was never reported.
+    #[inline(never)]
     fn starts_receive_of(
         &mut self,
         comm: u16,

@@ -107,7 +107,7 @@ impl Walk {
         Ok(())
     }
 
-    #[inline(never)]
+    #[inline(always)]
     fn waits(&mut self, at: &At<'_>, requests: &[Field]) -> Result<(), Stop>
         ensures same { self.new ≡ record self.old { list = self.new.list; ids = self.new.ids } }
         ensures takes { (spot : Spot) → IsAt spot at.now → Tells spot.lines self.old.requests.outcomes →
