@@ -10,6 +10,10 @@ fields_short : (line : List ℕ) → length line < 32768 → length (split_field
 fields_short line short =
     omega (arith, length-slice_split (λ (byte : ℕ). byte == space) line, count_by-le-length (λ (byte : ℕ). byte == space) line)
 
+-- nor has it after its word
+pub after_short : (line text : List ℕ) (rest : List (List ℕ)) → length line < 32768 → split_fields line ≡ text ∷ rest → length rest ≤ 32768
+after_short line text rest short is = omega (arith, ap length is, fields_short line short)
+
 -- neither have the fields after its first one
 pub after_word_short : (line : List ℕ) (r : Option (Bor (List ℕ))) (old new : List (List ℕ)) → length line < 32768 → old ≡ split_fields line → MatchOption r ((old ≡ []) × (new ≡ [])) (λ field. old ≡ field.now ∷ new) → length new ≤ 32768
 after_word_short line None old new short is m = rw m.1 (omega arith)

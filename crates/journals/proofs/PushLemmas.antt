@@ -7,7 +7,7 @@ use Rattle.mpicall.specs.Lines.{split_fields}
 use Rattle.journals.specs.Words.{forms_of, word_of, is_call}
 use Rattle.journals.specs.Fields.{field_of}
 use Rattle.journals.specs.Lines.{fields_of, put_field, last_field, begins_with_at, has_site, without_site, is_site, site_fits, line_if, line_with, line_by_word, line_of}
-use Rattle.journals.specs.inner.Taking.{fields_after_word, is_stopped, line_after_word, Grows, PutsFields, ReadsLine, PutsSoFar}
+use Rattle.journals.specs.inner.Taking.{HasNoWord, fields_after_word, is_stopped, line_after_word, Grows, PutsFields, ReadsLine, PutsSoFar}
 use Rattle.journals.specs.declared.fault.JournalFaultKind.TheVariants.{UnknownWord, FieldCount, FieldForm}
 use Rattle.journals.specs.declared.field.Field.{Field}
 use Rattle.journals.specs.declared.form.Form.{Form}
@@ -187,6 +187,10 @@ no_word ranks line text rest is none = rw (is, none) refl
 pub no_field : (ranks : ℕ) (line : List ℕ) → split_fields line ≡ [] → line_of ranks line ≡ Err UnknownWord
 unfolding line_of
 no_field ranks line is = rw is refl
+
+pub unknown : (ranks : ℕ) (line : List ℕ) (texts : List (List ℕ)) → split_fields line ≡ texts → HasNoWord texts → line_of ranks line ≡ Err UnknownWord
+unknown ranks line [] is none = no_field ranks line is
+unknown ranks line (text ∷ rest) is none = no_word ranks line text rest is none
 
 by_stopped : (ranks : ℕ) (word : Word) (fields : List (List ℕ)) → is_stopped word ≡ true → line_by_word ranks (Some word) fields ≡ Ok (record { word = word; fields = [] })
 by_stopped ranks (Call call.Stopped) fields is = refl

@@ -179,17 +179,26 @@ pub fn forms_of(word: Word) -> &'static [Form]
     }
 }
 
-/// Whether a word takes so many fields.
+/// Whether a word, which always has fields of these forms, takes so many fields.
 #[inline(always)]
-pub(crate) fn takes_count(word: Word, count: usize) -> bool
+pub(crate) fn takes_among(forms: &[Form], word: Word, count: usize) -> bool
+    requires { forms.now ≡ (row_of word).forms }
     ensures { result ≡ (length (forms_of word count) == count) }
 {
-    let least = forms_of(word).len();
+    let least = forms.len();
     match more_of(word) {
         More::Nothing | More::Text => count == least,
         More::Bytes => count == least || count == least + 1,
         More::Several(_) => count > least,
     }
+}
+
+/// Whether a word takes so many fields.
+#[inline(always)]
+pub(crate) fn takes_count(word: Word, count: usize) -> bool
+    ensures { result ≡ (length (forms_of word count) == count) }
+{
+    takes_among(forms_of(word), word, count)
 }
 
 /// The form of the field at a place of the fields that a word takes; it always has fields of these forms.

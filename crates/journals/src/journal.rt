@@ -24,7 +24,7 @@ use crate::known::Known;
 use crate::line::LineFault;
 use crate::line_window::Window;
 use crate::lines::Lines;
-use crate::reader::{NextLine, next_line};
+use crate::reader::{NextLine, next_line, whole_line};
 use crate::room::Room;
 use crate::text::TextInput;
 use mpicall::device::Input;
@@ -121,6 +121,9 @@ fn find_line<I: Input>(
     ensures passes { PassesFound (prepend_known window.old (text_left I.left text.old)) window.new
         (text_left I.left text.new) result }
 {
+    if let Some(count) = whole_line(window) {
+        return Ok(Some(count));
+    }
     match next_line(window, text, wait) {
         Ok(NextLine::Whole(count)) => Ok(Some(count)),
         Ok(NextLine::TooLong) => Err(JournalError::Fault(JournalFault {

@@ -4,20 +4,20 @@
 //! fields. Where one doesn't fit, they are read again, part by part: how many there are and whether there is a site
 //! decide whether the word can have so many, and which fault is the first.
 
-ghost use Rattle.std.specs.Prelude.{◌≡◌, ◌==◌, ◌≤◌, ◌<◌, ◌-◌, ◌&&◌, [], Some, true, if◌then◌else◌, length};
+ghost use Rattle.std.specs.Prelude.{◌≡◌, ◌==◌, ◌≤◌, ◌<◌, ◌-◌, ◌&&◌, [], ◌∷◌, Some, true, if◌then◌else◌, length, MatchOption};
 ghost use Rattle.std.specs.Option.{option_copied};
-ghost use Rattle.journals.specs.Words.{forms_of, is_call};
+ghost use Rattle.journals.specs.Words.{forms_of, is_call, row_of};
 ghost use Rattle.journals.specs.Lines.{begins_with_at, last_field, is_site, fields_of, line_of};
-ghost use Rattle.journals.specs.inner.Taking.{fields_after_word, is_stopped, line_after_word, PutsAll, PutsFields, ReadsLine};
+ghost use Rattle.journals.specs.inner.Taking.{fields_after_word, is_stopped, line_after_word, HasNoWord, HasWord, PutsAll, PutsFields, ReadsLine};
 ghost use Rattle.journals.specs.inner.Texts.{IsNumber};
 ghost use Rattle.journals.specs.declared.line.LineFault.TheVariants.{Memory};
 
 use crate::fault::JournalFaultKind;
 use crate::field::{Field, read_field, read_piece, read_positive};
-use crate::form::{form_among, form_at, forms_of, takes_count};
+use crate::form::{form_among, form_at, forms_of, takes_among, takes_count};
 use crate::limits::MOST_LINE_BYTES;
 use crate::texts::{Piece, Texts};
-use crate::word::{CallWord, Word, word_of};
+use crate::word::{CallWord, ReportWord, Word, word_of};
 use mpicall::fields::Fields;
 use std::alloc::{AllocError, AllocFailed};
 
@@ -208,6 +208,7 @@ fn begins_site(piece: Piece<'_>) -> bool
 }
 
 /// Whether a text that begins as a site does is that of a call line with so many fields before it, and none after it.
+#[inline(never)]
 fn ends_line(word: Word, place: usize, text: &[u8], mut rest: Texts<'_>) -> bool
     ensures over { result ≡ true → rest.entry ≡ [] }
     ensures call { result ≡ true → is_call word ≡ true }
@@ -248,7 +249,7 @@ fn push_all(
         into.push(it)?;
         place += 1;
     }
-    Ok(takes_count(word, place))
+    Ok(takes_among(forms, word, place))
 }
 
 /// Reads the fields after the word of a line, and puts them at the end of a list; answers the word.
@@ -281,6 +282,55 @@ fn is_stopped(word: Word) -> bool
     matches!(word, Word::Call(CallWord::Stopped))
 }
 
+/// Takes the first text off where it is a word that comes most often and others follow it; answers the word. Else the
+/// texts stay as they are.
+#[inline(always)]
+fn next_often(texts: &mut Texts<'_>) -> Option<Word>
+    ensures { MatchOption result (texts.new ≡ texts.old) (λ word. texts.old ≡ (row_of word).text ∷ texts.new) }
+{
+    if texts.take_word(b"isend") {
+        return Some(Word::Call(CallWord::Isend));
+    }
+    if texts.take_word(b"irecv") {
+        return Some(Word::Call(CallWord::Irecv));
+    }
+    if texts.take_word(b"wait") {
+        return Some(Word::Call(CallWord::Wait));
+    }
+    if texts.take_word(b"recv") {
+        return Some(Word::Call(CallWord::Recv));
+    }
+    if texts.take_word(b"=got") {
+        return Some(Word::Report(ReportWord::Got));
+    }
+    if texts.take_word(b"=done") {
+        return Some(Word::Report(ReportWord::Done));
+    }
+    None
+}
+
+/// Takes the first text off; answers the word that it is, if it is one.
+#[inline(never)]
+fn next_any(texts: &mut Texts<'_>) -> Option<Word>
+    ensures { MatchOption result (HasNoWord texts.old) (λ word. HasWord word texts.old texts.new) }
+{
+    let Some(text) = texts.next_text() else {
+        return None;
+    };
+    word_of(text)
+}
+
+/// The same; those that come most often first.
+#[inline(always)]
+fn next_word(texts: &mut Texts<'_>) -> Option<Word>
+    ensures { MatchOption result (HasNoWord texts.old) (λ word. HasWord word texts.old texts.new) }
+{
+    if let Some(word) = next_often(texts) {
+        return Some(word);
+    }
+    next_any(texts)
+}
+
 /// Reads a line, without its line feed, of a run of so many ranks: its word, and its fields, which are put at
 /// the end of a list.
 #[inline(never)]
@@ -290,10 +340,7 @@ pub(crate) fn read_line(ranks: u32, line: &[u8], into: &mut Vec<Field>) -> Resul
     ensures { ReadsLine (line_of ranks line.now) into.old.items into.new.items result }
 {
     let mut fields = Texts::of(line);
-    let Some(text) = fields.next_text() else {
-        return Err(LineFault::Journal(JournalFaultKind::UnknownWord));
-    };
-    let Some(word) = word_of(text) else {
+    let Some(word) = next_word(&mut fields) else {
         return Err(LineFault::Journal(JournalFaultKind::UnknownWord));
     };
     if is_stopped(word) {

@@ -107,6 +107,29 @@ fn by_call(call: CallLine<'_>, form: Form, number: u32, note: Option<Note>) -> O
     }
 }
 
+/// Notes what a call line says of one number, wherever its note is.
+#[inline(never)]
+fn use_any(notes: &mut Notes, call: CallLine<'_>, form: Form, number: u32) -> Result<(), LineFault>
+    requires { is_of_request form ≡ true }
+    ensures ok { OnOk result (may_call call.entry.line form (note_at notes.old number) ≡ true) }
+    ensures notes { OnOk result ((other : ℕ) → note_at notes.new other
+        ≡ (if number == other
+        then by_call call.entry.word call.entry.fields.now call.entry.line number form
+        (note_at notes.old number)
+        else note_at notes.old other)) }
+    ensures fault { IfErr result (IsFault Request
+        (may_call call.entry.line form (note_at notes.old number) ≡ false)) }
+{
+    let note = notes.get(number);
+    if !may_call(call.line, form, note) {
+        return Err(LineFault::Journal(JournalFaultKind::Request));
+    }
+    if let Some(note) = by_call(call, form, number, note) {
+        notes.put(number, note)?;
+    }
+    Ok(())
+}
+
 /// Notes what a call line says of one number.
 #[inline(always)]
 fn use_in_call(
@@ -134,14 +157,7 @@ fn use_in_call(
             return Ok(());
         }
     }
-    let note = notes.get(number);
-    if !may_call(call.line, form, note) {
-        return Err(LineFault::Journal(JournalFaultKind::Request));
-    }
-    if let Some(note) = by_call(call, form, number, note) {
-        notes.put(number, note)?;
-    }
-    Ok(())
+    use_any(notes, call, form, number)
 }
 
 /// How many of the first fields of a call line may be requests or messages; None where all may.

@@ -3,13 +3,13 @@
 //! A line longer than any may be is passed over without being held: whether it is a fault depends on whether
 //! its line feed comes at all, as a last line without one isn't read.
 
-ghost use Rattle.std.specs.Prelude.{◌≡◌, ◌≢◌, ◌-◌, ◌≤◌, ◌<◌, length, slice_index, IfOk, OnErr, MatchBool};
+ghost use Rattle.std.specs.Prelude.{◌≡◌, ◌≢◌, ◌-◌, ◌≤◌, ◌<◌, length, slice_index, IfOk, IfSome, OnErr, MatchBool};
 ghost use Rattle.std.specs.Io.KnownBytes.{prepend_known};
 ghost use Rattle.mpicall.specs.Device.{CountsFailure};
 ghost use Rattle.mpicall.specs.Spelling.{line_feed};
 ghost use Rattle.journals.specs.Inputs.{input_within, text_left};
 ghost use Rattle.journals.specs.inner.LineWindow.{NoFeedBelow};
-ghost use Rattle.journals.specs.inner.Reader.{IsHeld, KeepsText, coming, NoneComes, LongComes, Finds, CutsLine};
+ghost use Rattle.journals.specs.inner.Reader.{IsHeld, IsLine, KeepsText, coming, NoneComes, LongComes, Finds, CutsLine};
 
 use crate::limits::MOST_LINE_BYTES;
 use crate::line_window::{Window, feed_at, line_end};
@@ -69,8 +69,20 @@ fn skip_long<I: Input>(
     unreachable!()
 }
 
-/// Looks for the next whole line. A text may have no end, so this may wait for good in a line without end.
+/// How many of the held bytes the next line has, where it is held as a whole and isn't too long.
 #[inline(always)]
+pub(crate) fn whole_line(window: &Window) -> Option<usize>
+    ensures { IfSome result (IsLine window.now) }
+{
+    let at = feed_at(window.held(), 0)?;
+    if at >= MOST_LINE_BYTES {
+        return None;
+    }
+    Some(at + 1)
+}
+
+/// Looks for the next whole line. A text may have no end, so this may wait for good in a line without end.
+#[inline(never)]
 pub(crate) fn next_line<I: Input>(
     window: &mut Window,
     text: &mut TextInput<I>,

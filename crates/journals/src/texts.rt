@@ -2,7 +2,7 @@
 //!
 //! Most are numbers, so a number is read as its text is found, in one pass over its digits.
 
-ghost use Rattle.std.specs.Prelude.{◌≡◌, ◌≤◌, ◌==◌, [], ◌∷◌, length, position, IfSome, MatchOption};
+ghost use Rattle.std.specs.Prelude.{◌≡◌, ◌≤◌, ◌==◌, [], ◌∷◌, None, true, length, take, position, IfSome, MatchBool, MatchOption};
 ghost use Rattle.mpicall.specs.Number.{has_leading_zero};
 ghost use Rattle.mpicall.specs.Spelling.{space};
 ghost use Rattle.mpicall.specs.Lines.{split_fields};
@@ -47,24 +47,26 @@ struct Front {
 fn read_front(bytes: &[u8]) -> Option<Front>
     ensures { IfSome result (λ front. IsFront GREATEST bytes.now front.count front.number) }
 {
-    let mut number = 0;
+    let mut number: u64 = 0;
     for at in 0..bytes.len() {
         let byte = bytes[at];
         if !byte.is_ascii_digit() {
             if byte != b' ' {
                 return None;
             }
-            return Some(Front { count: at, number });
+            return Some(Front {
+                count: at,
+                number: number as u32,
+            });
         }
-        let next = u64::from(number) * 10 + u64::from(byte - b'0');
-        if next > u64::from(GREATEST) {
+        number = number * 10 + (u64::from(byte) - 48);
+        if number > u64::from(GREATEST) {
             return None;
         }
-        number = next as u32;
     }
     Some(Front {
         count: bytes.len(),
-        number,
+        number: number as u32,
     })
 }
 
@@ -82,6 +84,23 @@ fn space_at(bytes: &[u8]) -> Option<usize>
     ensures { result ≡ position (λ byte. byte == space) bytes.now }
 {
     bytes.iter().position(|byte| *byte == b' ')
+}
+
+/// Whether some bytes begin with a word. Where the word is known when this is built, each of its bytes is one test.
+#[inline(always)]
+fn begin_with(bytes: &[u8], word: &[u8]) -> bool
+    ensures long { result ≡ true → length word.now ≤ length bytes.now }
+    ensures front { result ≡ true → take (length word.now) bytes.now ≡ word.now }
+{
+    if bytes.len() < word.len() {
+        return false;
+    }
+    for at in 0..word.len() {
+        if bytes[at] != word[at] {
+            return false;
+        }
+    }
+    true
 }
 
 impl<'a> Texts<'a> {
@@ -109,6 +128,23 @@ impl<'a> Texts<'a> {
                 Some(&rest[..at])
             }
         }
+    }
+
+    /// Takes the next text off where it is this word, which has no space, and others follow it; says whether it
+    /// did. Else the texts stay as they are.
+    #[inline(always)]
+    pub(crate) fn take_word(&mut self, word: &[u8]) -> bool
+        requires { position (λ byte. byte == space) word.now ≡ None }
+        ensures { MatchBool result (self.old ≡ word.now ∷ self.new) (self.new ≡ self.old) }
+    {
+        let Some(rest) = self.rest else {
+            return false;
+        };
+        if !begin_with(rest, word) || rest.len() == word.len() || rest[word.len()] != b' ' {
+            return false;
+        }
+        self.rest = Some(&rest[word.len() + 1..]);
+        true
     }
 
     /// The next text with its number, where it is a canonical one up to the greatest. Else the texts stay as they are.

@@ -1,6 +1,7 @@
 -- What the reading of a line leaves.
-use Rattle.std.specs.Prelude.{◌≡◌, ℕ, Bool, true, false, Option, Some, None, option_map, Result, Ok, Err, List, [], ◌∷◌, ◌++◌, length, drop}
+use Rattle.std.specs.Prelude.{◌≡◌, ℕ, Bool, true, false, Option, Some, None, option_map, Result, Ok, Err, List, [], ◌∷◌, ◌++◌, length, drop, ⊤}
 use Rattle.mpicall.specs.Lines.{split_fields}
+use Rattle.journals.specs.Words.{word_of}
 use Rattle.journals.specs.Lines.{Line, site_fits, without_site, line_with}
 use Rattle.journals.specs.declared.fault.JournalFaultKind.{JournalFaultKind}
 use Rattle.journals.specs.declared.fault.JournalFaultKind.TheVariants.{FieldForm}
@@ -19,6 +20,17 @@ fields_after_word line = drop 1 (split_fields line)
 abbrev pub is_stopped : Word → Bool
 is_stopped (Call call.Stopped) = true
 is_stopped _ = false
+
+-- the first text spells a word, and these are the texts after it
+pub record HasWord (word : Word) (old new : List (List ℕ)) : Type 0 where
+  pub text : List ℕ
+  pub first : old ≡ text ∷ new
+  pub spells : word_of text ≡ Some word
+
+-- there is no first text, or it spells no word
+abbrev pub HasNoWord : List (List ℕ) → Type 0
+HasNoWord [] = ⊤
+HasNoWord (text ∷ rest) = word_of text ≡ None
 
 -- the line of a word other than `stopped` and the fields after it
 abbrev pub line_after_word : ℕ → Word → List (List ℕ) → Result Line JournalFaultKind

@@ -39,9 +39,9 @@ loop-piece-preserved c =
 pub returns : goal.returns
 returns c =
     let over = no_piece c.next_piece.result c.loop-piece.fields c.next_piece.new.self c.in_default.is c.next_piece.ensures in
-    ended c.args.ranks c.args.word c.args.fields c.args.into.now.items c.loop-piece.into.items c.takes_count.result
+    ended c.args.ranks c.args.word c.args.fields c.args.into.now.items c.loop-piece.into.items c.takes_among.result
     (λ is. whole c.args.ranks c.args.word c.args.fields c.loop-piece.place c.loop-piece.fields c.args.into.now.items c.loop-piece.into.items
-    over c.loop-piece.invariant.left (sym c.takes_count.ensures ∙ is) c.loop-piece.invariant.each c.loop-piece.invariant.none)
+    over c.loop-piece.invariant.left (sym c.takes_among.ensures ∙ is) c.loop-piece.invariant.each c.loop-piece.invariant.none)
     c.loop-piece.invariant.grows
 
 pub read_piece-requires-clause-number : goal.read_piece-requires-clause-number

@@ -13,10 +13,10 @@ returns-then-not-is_ascii_digit c = record { are = c.loop-at.invariant; ends = Î
 
 pub loop-at-preserved : goal.loop-at-preserved
 loop-at-preserved c =
-    rw (c.from.ensures, c.from-in-loop-at.ensures)
+    rw c.from.ensures
     (digit_read GREATEST c.args.bytes.now c.loop-at.at c.loop-at.number c.loop-at.invariant c.loop-at-test.true
     (sym c.is_ascii_digit.ensures.value âˆ™ c.if-not-is_ascii_digit.false)
-    (omega (arith, c.if-next-from.false, c.from.ensures, c.from-in-loop-at.ensures, c.from-in-loop-at-2.ensures)))
+    (omega (arith, c.if-number-from.false, c.from.ensures, c.from-in-loop-at.ensures)))
 
 pub returns : goal.returns
 returns c =
