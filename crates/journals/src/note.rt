@@ -180,16 +180,22 @@ impl Note {
     pub(crate) fn when_called(self, word: CallWord, fields: &[Field], line: u32) -> Note
         ensures { result ≡ called_note word fields.now line self }
     {
-        let completed = if completes_all(word, fields) {
-            Some(line)
-        } else {
-            self.completed
-        };
-        Note {
-            called: line,
-            is_cancelled: self.is_cancelled || matches!(word, CallWord::Cancel),
-            completed,
-            ..self
+        let mut note = self;
+        note.call(word, fields, line);
+        note
+    }
+
+    /// The same in its place.
+    #[inline(always)]
+    pub(crate) fn call(&mut self, word: CallWord, fields: &[Field], line: u32)
+        ensures { self.new ≡ called_note word fields.now line self.old }
+    {
+        self.called = line;
+        if let CallWord::Cancel = word {
+            self.is_cancelled = true;
+        }
+        if completes_all(word, fields) {
+            self.completed = Some(line);
         }
     }
 

@@ -3,10 +3,10 @@
 //! Most programs number them one after another, so a list has their notes in that order. A number that is far
 //! beyond those before it has its note in a map.
 
-ghost use Rattle.std.specs.Prelude.{◌≡◌, ◌==◌, ◌≤◌, ◌<◌, ◌+◌, ℕ, None, Some, true, IfOk, MatchBool, OnOk, if◌then◌else◌, length};
+ghost use Rattle.std.specs.Prelude.{◌≡◌, ◌==◌, ◌≤◌, ◌<◌, ◌+◌, ℕ, None, Some, true, IfOk, MatchBool, OnOk, if◌then◌else◌, length, option_map};
 ghost use Rattle.std.specs.Prelude.{nat_eq};
 ghost use Rattle.std.specs.HashMap.{get};
-ghost use Rattle.journals.specs.inner.Notes.{note_at, may_call, by_call};
+ghost use Rattle.journals.specs.inner.Notes.{note_at, may_call, by_call, called_note};
 
 use crate::form::Form;
 use crate::note::Note;
@@ -19,6 +19,16 @@ use std::collections::HashMap;
 pub(crate) struct Notes {
     near: Vec<Option<Note>>,
     far: HashMap<u32, Note>,
+}
+
+/// What a note is once a call line names its number, put in its place.
+#[inline(always)]
+fn call_in_place(held: &mut Option<Note>, call: CallLine<'_>)
+    ensures { held.new ≡ option_map (called_note call.entry.word call.entry.fields.now call.entry.line) held.old }
+{
+    if let Some(note) = held {
+        note.call(call.word, call.fields, call.line);
+    }
 }
 
 impl Notes {
@@ -94,13 +104,13 @@ impl Notes {
             (self.new ≡ self.old) }
     {
         let place = number as usize;
-        let Some(Some(note)) = self.near.get(place).copied() else {
+        let Some(Some(note)) = self.near.get(place) else {
             return false;
         };
-        if !may_call(call.line, form, Some(note)) {
+        if !may_call(call.line, form, Some(*note)) {
             return false;
         }
-        self.near[place] = Some(note.when_called(call.word, call.fields, call.line));
+        call_in_place(&mut self.near[place], call);
         true
     }
 
