@@ -56,6 +56,7 @@ pub(crate) enum Start {
 
 impl Start {
     /// The call that starts it as a request with a number.
+    #[inline(always)]
     fn call(self, req: u32) -> Call
         ensures { result ≡ start_call self req }
     {
@@ -84,6 +85,7 @@ impl Start {
         }
     }
 
+    #[inline(always)]
     fn is_send(self) -> bool
         ensures { result ≡ is_start_of_send self }
     {
@@ -214,6 +216,7 @@ impl List {
     }
 
     /// Adds a line that has room in every list: its end, or a line of the preface.
+    #[inline(always)]
     pub(crate) fn put(&mut self, call: &Call) -> Result<(), AllocError>
         ensures records { OnOk result (IsTrue (in_ranges call.now) → self.new.records ≡ self.old.records ++ call.now ∷ []) }
         ensures freed { self.new.freed ≡ self.old.freed }
@@ -230,6 +233,7 @@ impl List {
 
     /// Adds a line, where the list isn't too long.
     #[tactic(auto, using(crate::proofs::ListLemmas::no_room, crate::proofs::ListLemmas::adds_put))]
+    #[inline(always)]
     fn add(&mut self, call: &Call) -> Result<(), Stop>
         ensures { IsTrue (in_ranges call.now) → self.old.count < MOST_RECORDS → Adds result self.old self.new (call.now ∷ []) }
     {
@@ -241,6 +245,7 @@ impl List {
     }
 
     /// Puts a line that starts no request.
+    #[inline(always)]
     pub(crate) fn does(&mut self, call: &Call) -> Result<(), Stop>
         ensures { (handed : Handed) (progress : Progress) (line : ℕ) → Stands handed progress self.old → IsTrue (in_ranges call.now) → ComesTo result handed (after_step progress line (Does call.now)) line self.new }
     {
@@ -266,6 +271,7 @@ impl List {
     }
 
     /// The least number that no active request has; it is so no longer.
+    #[inline(never)]
     fn take_number(&mut self) -> u32
         ensures takes { (active : Requests) → AreNumbered active self.old → self.old.given < GREATEST_REQUEST → TakesFree active self.old self.new result }
         ensures same { KeepsRecords self.old self.new }
@@ -292,6 +298,7 @@ impl List {
     }
 
     /// Puts a line that starts a request, by the rank's own number of it.
+    #[inline(always)]
     pub(crate) fn starts(&mut self, id: u32, start: Start) -> Result<(), Stop>
         ensures { (handed : Handed) (progress : Progress) (line : ℕ) → Stands handed progress self.old → IsTrue (in_ranges (start_call start 0)) → number_in progress.active (Own id) ≡ None → ComesTo result handed (after_step progress line (Starts (Own id) (start_call start))) line self.new }
     {

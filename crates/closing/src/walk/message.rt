@@ -30,6 +30,7 @@ pub(super) struct Halves {
 }
 
 /// The start of a send.
+#[inline(always)]
 pub(super) fn start_of_send(mode: Mode, comm: u16, sent: &Sent) -> Start
     ensures { IsTrue (peer_can_be 1024 sent.now.dest) → start_call result ≡ start_send mode comm (sent_view sent.now) }
 {
@@ -43,6 +44,7 @@ pub(super) fn start_of_send(mode: Mode, comm: u16, sent: &Sent) -> Start
 }
 
 /// The start of the receive of a message.
+#[inline(always)]
 fn start_of_receive(comm: u16, message: &Message) -> Start
     ensures { IsTrue (peer_can_be 1024 message.now.source) → start_call result ≡ start_receive comm (message_view message.now) }
 {
@@ -53,6 +55,7 @@ fn start_of_receive(comm: u16, message: &Message) -> Start
     }
 }
 
+#[inline(always)]
 fn send_line(mode: Mode, comm: u16, sent: &Sent) -> Call
     ensures { IsTrue (peer_can_be 1024 sent.now.dest) → result ≡ send mode comm (sent_view sent.now) }
 {
@@ -65,6 +68,7 @@ fn send_line(mode: Mode, comm: u16, sent: &Sent) -> Call
     }
 }
 
+#[inline(always)]
 fn receive_line(comm: u16, message: &Message) -> Call
     ensures { IsTrue (peer_can_be 1024 message.now.source) → result ≡ receive comm (message_view message.now) }
 {
@@ -142,11 +146,22 @@ impl Walk {
             Takes spot (starts_send_on spot own mode (sent_view sent.now)) result self.old.list self.new.list }
     {
         let comm = at.number_if(sent_can_be(at.size(), sent))?;
+        let sent = *sent;
+        self.starts_sent(own, mode, comm, &sent)
+    }
+
+    /// Puts a line that starts a send, unless that was cancelled.
+    #[inline(never)]
+    fn starts_sent(&mut self, own: u32, mode: Mode, comm: u16, sent: &Sent) -> Result<(), Stop>
+        ensures same { self.new ≡ record self.old { list = self.new.list } }
+        ensures takes { (spot : Spot) → Tells spot.lines self.old.requests.outcomes → IsTrue (peer_can_be 1024 sent.now.dest) →
+            Takes spot (GoesOn (starts_at spot own (start_send mode comm (sent_view sent.now)))) result self.old.list self.new.list }
+    {
         self.starts_unless_gone(own, start_of_send(mode, comm, sent))
     }
 
     /// Puts a line that starts a request, unless that was cancelled.
-    #[inline(never)]
+    #[inline(always)]
     pub(super) fn starts_unless_gone(&mut self, own: u32, start: Start) -> Result<(), Stop>
         ensures same { self.new ≡ record self.old { list = self.new.list } }
         ensures takes { (spot : Spot) → Tells spot.lines self.old.requests.outcomes →
