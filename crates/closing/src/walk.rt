@@ -534,15 +534,15 @@ impl Walk {
         match entry.word {
             CallWord::Isend => {
                 let it = starts_send(Mode::Standard, fields);
-                self.take_called(run, lines, entry, &it)
+                self.take_known(run, lines, entry, &it)
             }
             CallWord::Irecv => {
                 let it = starts_receive(fields);
-                self.take_called(run, lines, entry, &it)
+                self.take_known(run, lines, entry, &it)
             }
             CallWord::Recv => {
                 let it = receives(fields);
-                self.take_called(run, lines, entry, &it)
+                self.take_known(run, lines, entry, &it)
             }
             CallWord::Wait => self.take_called(run, lines, entry, &Called::Waits(fields)),
             _ => {
@@ -571,6 +571,31 @@ impl Walk {
     {
         let it = read_call(entry.word, lines.fields(entry.place));
         self.take_called(run, lines, entry, &it)
+    }
+
+    /// Takes an entry by its call, which is of one variant where it is any: so the variant is known behind this.
+    #[inline(always)]
+    fn take_known(
+        &mut self,
+        run: &mut Communicators,
+        lines: &Lines,
+        entry: &Entry,
+        it: &Called<'_>,
+    ) -> Result<bool, Stop>
+        ensures same { self.new ≡ record self.old { comms = self.new.comms; list = self.new.list; requests = self.new.requests; late = self.new.late; ids = self.new.ids; wanted = self.new.wanted; sinks = self.new.sinks; pending = self.new.pending; left_out = self.new.left_out } }
+        ensures outcomes { self.new.requests.outcomes ≡ self.old.requests.outcomes }
+        ensures run { run.new ≡ record run.old { keys = run.new.keys } }
+        ensures entered { (said : Run) (heading : Heading) (handed : Handed) (progress : Progress) → IsCallOf lines.now entry.now it.now →
+            IsBefore said (record { heading = heading; lines = lines.now }) run.old self.old entry.now →
+            IsReady said (choice_in self.old.choice) (record { heading = heading; lines = lines.now }) handed progress self.old entry.now →
+            IsEntered said (choice_in self.old.choice) (placed_here self.old.rank (record { heading = heading; lines = lines.now }) entry.now.place entry.now.word)
+            result handed progress run.old.keys run.new.keys entry.now.reports.end self.new }
+    {
+        if matches!(it, Called::Nothing) {
+            let entry = *entry;
+            return self.take_any(run, lines, &entry);
+        }
+        self.take_called(run, lines, entry, it)
     }
 
     /// Takes an entry by its call.

@@ -71,6 +71,24 @@ enum Fate {
     Ends(Why),
 }
 
+impl<'a> At<'a> {
+    /// The same, part by part: where a call that is seldom gets it, the other ways need no place in memory for it.
+    #[inline(always)]
+    fn copy(&self) -> At<'a>
+        ensures { result ≡ self.now }
+    {
+        At {
+            named: self.named,
+            wave: self.wave,
+            made: self.made,
+            came_back: self.came_back,
+            is_past: self.is_past,
+            got: self.got,
+            chose: self.chose,
+        }
+    }
+}
+
 /// A rank of a group; None for a wildcard.
 fn source_of(field: Field) -> Option<u16>
     ensures { IsTrue (peer_can_be 1024 field) → result ≡ number_of field }
@@ -394,8 +412,8 @@ impl Walk {
         if self.is_plain(found) {
             return Ok(false);
         }
-        let awaited = *awaited;
-        self.blocks_met(at, &awaited, leaves)
+        let (at, awaited) = (at.copy(), *awaited);
+        self.blocks_met(&at, &awaited, leaves)
     }
 
     /// The same where its message isn't known, or a sink may take it.
@@ -476,8 +494,8 @@ impl Walk {
         if self.is_plain(found) {
             return Ok(false);
         }
-        let awaited = *awaited;
-        self.starts_receive_met(lines, at, own, &awaited)
+        let (at, awaited) = (at.copy(), *awaited);
+        self.starts_receive_met(lines, &at, own, &awaited)
     }
 
     /// The same where its message isn't known, or a sink may take it.
