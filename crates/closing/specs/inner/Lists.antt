@@ -209,11 +209,6 @@ abbrev pub AreHeld : Requests → List ℕ → Type 0
 AreHeld active [] = Unit {0}
 AreHeld active (number ∷ numbers) = (has_number active number ≡ true) × AreHeld (without number active) numbers
 
--- the call, if there is one
-abbrev pub found_call : Option Call → List Call
-found_call None = []
-found_call (Some call) = call ∷ []
-
 -- but for the numbers that one line names it is as it was
 pub record FindsOnly (old new : ListCode) : Type 0 where
   pub records : new.records ≡ old.records
