@@ -32,21 +32,21 @@ use Rattle.cli.specs.declared.status.Status.TheVariants as status
 use Rattle.cli.specs.declared.command_line.CommandLine.{CommandLine}
 use Rattle.cli.specs.declared.command_line.CommandLine.TheVariants.{Check, Lint, Judge, Close, Said, NoMemory}
 
-abbrev into_memory : MemoryOutput → Option Text
+abbrev pub into_memory : MemoryOutput → Option Text
 into_memory output = Some (bytes_written output)
 
 -- what became of an output in memory
 module _ (failures : MemoryOutput → ℕ) (old new : MemoryOutput) (out : Written) where
-  wrote : (text : Text) → Becomes into_memory failures old new out → out ≡ Whole text → bytes_written new ≡ bytes_written old ++ text
+  pub wrote : (text : Text) → Becomes into_memory failures old new out → out ≡ Whole text → bytes_written new ≡ bytes_written old ++ text
   wrote text became is = (subst (Becomes into_memory failures old new) is became).0
 
-  left : Becomes into_memory failures old new out → out ≡ Nothing → bytes_written new ≡ bytes_written old
+  pub left : Becomes into_memory failures old new out → out ≡ Nothing → bytes_written new ≡ bytes_written old
   left became is = ap bytes_written (subst (Becomes into_memory failures old new) is became)
 
-  broke : (text : Text) → Becomes into_memory failures old new out → out ≡ Broken text → IsTriedOn text (bytes_written old) (bytes_written new)
+  pub broke : (text : Text) → Becomes into_memory failures old new out → out ≡ Broken text → IsTriedOn text (bytes_written old) (bytes_written new)
   broke text became is = let b = subst (Becomes into_memory failures old new) is became in inr (b.0.0, b.0.1)
 
-  tried : (text : Text) → Becomes into_memory failures old new out → IsTried text out → IsTriedOn text (bytes_written old) (bytes_written new)
+  pub tried : (text : Text) → Becomes into_memory failures old new out → IsTried text out → IsTriedOn text (bytes_written old) (bytes_written new)
   tried text became (inl is) = inl (wrote text became is)
   tried text became (inr is) = broke text became is
 

@@ -8,5 +8,6 @@ pub mod EndLemmas
 pub mod LintLemmas
 pub mod HeadToHeadLemmas
 pub mod InMemoryLemmas
+pub mod LintInMemory
 pub mod JournalLemmas
 pub mod FolderLemmas

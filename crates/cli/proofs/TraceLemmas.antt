@@ -9,7 +9,7 @@ pub trace_read : (text : List ℕ) (trace : Trace) → IsTraceOf (lines_of text)
 unfolding trace_of
 trace_read text trace holds = (one_trace (lines_of text) trace).0 holds
 
-holds_read : (text : List ℕ) → IsTraceOf (lines_of text) (trace_of text)
+pub holds_read : (text : List ℕ) → IsTraceOf (lines_of text) (trace_of text)
 unfolding trace_of
 holds_read text = (one_trace (lines_of text) (trace_of text)).1 refl
 

@@ -1,9 +1,9 @@
-//! The program over files and outputs in memory. How a check ends there is said whole: the contract has no premise
-//! about what an opener or an output reports, as that of `program` does.
+//! The program over files and outputs in memory. How a check and a lint end there is said whole: the contract has no
+//! premise about what an opener or an output reports, as that of `program` does.
 
 ghost use Rattle.std.specs.Prelude.{◌≢◌, map};
 ghost use Rattle.mpicall.specs.Devices.{bytes_written};
-ghost use Rattle.cli.specs.InMemory.{ChecksTexts};
+ghost use Rattle.cli.specs.InMemory.{ChecksTexts, LintsText};
 ghost use Rattle.cli.specs.MemoryFiles.{text_on};
 
 use crate::memory_files::{MemoryFile, MemoryFiles};
@@ -17,7 +17,7 @@ use std::thread::Threads;
 use std::time::Clock;
 
 /// Does what the words ask for over files in memory. Unless it ends with a fault, as where memory runs out, a check
-/// of files that are there ends by their texts, and writes what these say and nothing else.
+/// of files that are there ends by their texts, and writes what these say and nothing else. So does a lint.
 pub fn program_in_memory<R: Threads + Wait + Clock + Sync>(
     alloc: Global,
     words: &[&str],
@@ -26,7 +26,8 @@ pub fn program_in_memory<R: Threads + Wait + Clock + Sync>(
     out: &mut MemoryOutput,
     err: &mut MemoryOutput,
 ) -> Status
-    ensures { result ≢ Status.Fault → ChecksTexts (text_on files.now) (map (λ word. word.now) words.now) result (bytes_written out.old) (bytes_written out.new) (bytes_written err.old) (bytes_written err.new) }
+    ensures check { result ≢ Status.Fault → ChecksTexts (text_on files.now) (map (λ word. word.now) words.now) result (bytes_written out.old) (bytes_written out.new) (bytes_written err.old) (bytes_written err.new) }
+    ensures lint { result ≢ Status.Fault → LintsText (text_on files.now) (map (λ word. word.now) words.now) result (bytes_written out.old) (bytes_written out.new) (bytes_written err.old) (bytes_written err.new) }
 {
     let shelf = MemoryFiles { files };
     let mut screen = Screen {

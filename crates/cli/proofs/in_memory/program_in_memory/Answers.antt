@@ -1,6 +1,10 @@
 -- The end is that of the lemmas.
 use Rattle.cli.proofs.InMemoryLemmas.{checks}
+use Rattle.cli.proofs.LintInMemory.{lints}
 use Rattle.cli.proofs.in_memory.program_in_memory.Goals as goal
 
-pub returns : goal.returns
-returns g c other = checks _ _ _ _ _ _ _ _ _ _ c.program.ensures other
+pub returns-clause-check : goal.returns-clause-check
+returns-clause-check g c other = checks _ _ _ _ _ _ _ _ _ _ c.program.ensures other
+
+pub returns-clause-lint : goal.returns-clause-lint
+returns-clause-lint g c other = lints _ _ _ _ _ _ _ _ _ _ c.program.ensures other
