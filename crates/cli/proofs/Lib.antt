@@ -9,5 +9,6 @@ pub mod LintLemmas
 pub mod HeadToHeadLemmas
 pub mod InMemoryLemmas
 pub mod LintInMemory
+pub mod JudgeInMemory
 pub mod JournalLemmas
 pub mod FolderLemmas

@@ -3,7 +3,7 @@ use Rattle.std.specs.Prelude.{◌≡◌, ⊤}
 use Rattle.clap.specs.Walk.{Text}
 use Rattle.judging.specs.JournalTexts.{Known, IsFaultOfFiles}
 use Rattle.closing.specs.declared.choice.Choice.{Choice}
-use Rattle.judging.specs.Judging.{HoldNoRun, IsUnclean}
+use Rattle.judging.specs.Judging.{HoldNoFault, HoldNoRun, IsUnclean}
 use Rattle.judging.specs.declared.read.ReadFault.TheVariants as read
 use Rattle.cli.specs.declared.fault.Fault.{Fault}
 use Rattle.cli.specs.declared.fault.Fault.TheVariants.{OpenJournal, RefusedJournal, FailedJournal, UncleanCut, Make, Head, Refused, Memory, Unproved, Write, WriteFile}
@@ -16,12 +16,13 @@ IsFaultOfJournals known folder (FailedJournal rank line) = IsFaultOfFiles known 
 IsFaultOfJournals known folder Memory = ⊤
 IsFaultOfJournals known folder fault = ⊥
 
--- these, that of a cut where something is under way, and a failed write; a fault of their recording only where the files aren't known to hold a run
+-- these, that of a cut where something is under way, and a failed write; a fault of their recording only where the files
+-- aren't known to hold a run; neither where they are known to hold a fault
 abbrev pub IsFaultOfJudge : Known → Choice → Text → Fault → Type 0
-IsFaultOfJudge known choice folder (UncleanCut entry) = IsUnclean known choice entry
-IsFaultOfJudge known choice folder (Head fault) = HoldNoRun known
-IsFaultOfJudge known choice folder (Refused refusal) = HoldNoRun known
-IsFaultOfJudge known choice folder (Unproved rank) = HoldNoRun known
+IsFaultOfJudge known choice folder (UncleanCut entry) = IsUnclean known choice entry × HoldNoFault known
+IsFaultOfJudge known choice folder (Head fault) = HoldNoRun known × HoldNoFault known
+IsFaultOfJudge known choice folder (Refused refusal) = HoldNoRun known × HoldNoFault known
+IsFaultOfJudge known choice folder (Unproved rank) = HoldNoRun known × HoldNoFault known
 IsFaultOfJudge known choice folder Write = ⊤
 IsFaultOfJudge known choice folder fault = IsFaultOfJournals known folder fault
 

@@ -19,4 +19,5 @@ pub mod Lints
 pub mod MemoryFiles
 pub mod HeadToHead
 pub mod InMemory
+pub mod JournalsInMemory
 pub mod inner

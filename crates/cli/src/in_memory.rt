@@ -1,9 +1,10 @@
-//! The program over files and outputs in memory. How a check and a lint end there is said whole: the contract has no
-//! premise about what an opener or an output reports, as that of `program` does.
+//! The program over files and outputs in memory. How a check, a lint and a judgement end there is said whole: the contract
+//! has no premise about what an opener or an output reports, as that of `program` does.
 
 ghost use Rattle.std.specs.Prelude.{◌≢◌, map};
 ghost use Rattle.mpicall.specs.Devices.{bytes_written};
 ghost use Rattle.cli.specs.InMemory.{ChecksTexts, LintsText};
+ghost use Rattle.cli.specs.JournalsInMemory.{JudgesJournals};
 ghost use Rattle.cli.specs.MemoryFiles.{text_on};
 
 use crate::memory_files::{MemoryFile, MemoryFiles};
@@ -17,7 +18,8 @@ use std::thread::Threads;
 use std::time::Clock;
 
 /// Does what the words ask for over files in memory. Unless it ends with a fault, as where memory runs out, a check
-/// of files that are there ends by their texts, and writes what these say and nothing else. So does a lint.
+/// of files that are there ends by their texts, and writes what these say and nothing else. So do a lint, and a judgement
+/// of a folder that has a journal of rank 0: it has the files whose paths begin with it.
 pub fn program_in_memory<R: Threads + Wait + Clock + Sync>(
     alloc: Global,
     words: &[&str],
@@ -28,6 +30,7 @@ pub fn program_in_memory<R: Threads + Wait + Clock + Sync>(
 ) -> Status
     ensures check { result ≢ Status.Fault → ChecksTexts (text_on files.now) (map (λ word. word.now) words.now) result (bytes_written out.old) (bytes_written out.new) (bytes_written err.old) (bytes_written err.new) }
     ensures lint { result ≢ Status.Fault → LintsText (text_on files.now) (map (λ word. word.now) words.now) result (bytes_written out.old) (bytes_written out.new) (bytes_written err.old) (bytes_written err.new) }
+    ensures judge { result ≢ Status.Fault → JudgesJournals (text_on files.now) (map (λ word. word.now) words.now) result (bytes_written out.old) (bytes_written out.new) (bytes_written err.old) (bytes_written err.new) }
 {
     let shelf = MemoryFiles { files };
     let mut screen = Screen {

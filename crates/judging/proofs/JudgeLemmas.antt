@@ -24,7 +24,7 @@ use Rattle.report.specs.declared.write.Format.{Format}
 use Rattle.report.specs.declared.write.Format.TheVariants.{Text, Json}
 use Rattle.waitgraph.proofs.PendingStaysLemmas.{held_ranks_stay_by}
 use Rattle.judging.specs.JournalTexts.{Known, AreKnown}
-use Rattle.judging.specs.Judging.{IsJudgedReport, IsRecordingOfRun, IsFaultOfJudge, is_no_leak, left_words, reported_by}
+use Rattle.judging.specs.Judging.{IsJudgedReport, IsRecordingOfRun, IsFaultOfJudge, IsUnclean, HoldNoRun, is_no_leak, left_words, reported_by}
 use Rattle.judging.specs.KnownCalls.{calls_at_opens, judged_choice, known_of}
 use Rattle.judging.specs.NamedCalls.{HaveLines, HaveNumbers, calls_in, calls_named, lines_of}
 use Rattle.judging.specs.declared.judge.JudgeFault.{JudgeFault}
@@ -113,23 +113,29 @@ module _ (known : Known) (manner : Manner) (begun : RecordingView) (run : IsRunO
   cut_fault it analysed choice has rows window (Head fault) is = absurd is
   cut_fault it analysed choice has rows window (Refused refusal) is = absurd is
   cut_fault it analysed choice has rows window Unended is = absurd is
-  cut_fault it analysed choice has rows window (Unclean entry) is = λ first texts hold are reads.
-      let same : begun.run ≡ hold = run.same first texts hold are reads in
-      let read : IsRead begun.run = record { first = first; texts = texts; is_read = reads ∙ ap (λ (r : Run). Ok r) (sym same) } in
-      let all = has fresh read in
-      let said : EntryAt = record { rank = entry.rank; line = entry.line } in
-      let found : unclean_at it.run it.choice ≡ Some said = is (gathered begun it analysed rows all (window fresh read)) in
-      subst (λ (r : Run). unclean_at r (judged_choice manner.choice) ≡ Some said) (all.run ∙ same) (subst (λ (c : Choice). unclean_at it.run c ≡ Some said) (all.choice ∙ choice) found)
+  cut_fault it analysed choice has rows window (Unclean entry) is = (is_unclean, run.none_refused)
+    where
+      is_unclean : IsUnclean known manner.choice entry
+      is_unclean first texts hold are reads =
+          let same : begun.run ≡ hold = run.same first texts hold are reads in
+          let read : IsRead begun.run = record { first = first; texts = texts; is_read = reads ∙ ap (λ (r : Run). Ok r) (sym same) } in
+          let all = has fresh read in
+          let said : EntryAt = record { rank = entry.rank; line = entry.line } in
+          let found : unclean_at it.run it.choice ≡ Some said = is (gathered begun it analysed rows all (window fresh read)) in
+          subst (λ (r : Run). unclean_at r (judged_choice manner.choice) ≡ Some said) (all.run ∙ same) (subst (λ (c : Choice). unclean_at it.run c ≡ Some said) (all.choice ∙ choice) found)
   cut_fault it analysed choice has rows window Memory is = tt
   cut_fault it analysed choice has rows window Write is = absurd is
 
   -- a fault of the recording other than want of memory comes of no known files
+  no_run : (fault : JudgeFault) → (IsFresh begun → IsRead begun.run → fault ≡ Memory) → (fault ≡ Memory → ⊥) → HoldNoRun known
+  no_run fault lawful other first texts r are h = other (lawful fresh (record { first = first; texts = texts; is_read = h ∙ ap (λ (o : Run). Ok o) (sym (run.same first texts r are h)) }))
+
   pub judge_fault : (fault : JudgeFault) → IsOfRecording fault → (IsFresh begun → IsRead begun.run → fault ≡ Memory) → IsFaultOfJudge known manner.choice fault
   judge_fault (Read it) is lawful = absurd is
-  judge_fault (Head it) is lawful = λ first texts r are h. let same : Head it ≡ Memory = lawful fresh (record { first = first; texts = texts; is_read = h ∙ ap (λ (o : Run). Ok o) (sym (run.same first texts r are h)) }) in cc
-  judge_fault (Refused it) is lawful = λ first texts r are h. let same : Refused it ≡ Memory = lawful fresh (record { first = first; texts = texts; is_read = h ∙ ap (λ (o : Run). Ok o) (sym (run.same first texts r are h)) }) in cc
-  judge_fault Unended is lawful = λ first texts r are h. let same : Unended ≡ Memory = lawful fresh (record { first = first; texts = texts; is_read = h ∙ ap (λ (o : Run). Ok o) (sym (run.same first texts r are h)) }) in cc
-  judge_fault (Unclean it) is lawful = λ first texts r are h. let same : Unclean it ≡ Memory = lawful fresh (record { first = first; texts = texts; is_read = h ∙ ap (λ (o : Run). Ok o) (sym (run.same first texts r are h)) }) in cc
+  judge_fault (Head it) is lawful = (no_run (Head it) lawful (λ same. cc), run.none_refused)
+  judge_fault (Refused it) is lawful = (no_run (Refused it) lawful (λ same. cc), run.none_refused)
+  judge_fault Unended is lawful = (no_run Unended lawful (λ same. cc), run.none_refused)
+  judge_fault (Unclean it) is lawful = ((λ first texts r are h. absurd (no_run (Unclean it) lawful (λ same. cc) first texts r are h)), run.none_refused)
   judge_fault Memory is lawful = tt
   judge_fault Write is lawful = absurd is
 

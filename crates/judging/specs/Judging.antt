@@ -127,20 +127,25 @@ abbrev pub HoldNoRun : Known → Type 0
 HoldNoRun known =
     (first : List ℕ) (texts : ℕ → Option (List ℕ)) (run : Run) → AreKnown known (length run) first texts → run_of first texts ≡ Ok run → ⊥
 
+-- nor a fault, with which they aren't read
+abbrev pub HoldNoFault : Known → Type 0
+HoldNoFault known =
+    (first : List ℕ) (texts : ℕ → Option (List ℕ)) (fault : RankFault) → AreKnown known MOST_RANKS first texts → run_of first texts ≡ Err fault → ⊥
+
 -- where the files are known and hold a run, its cut isn't clean at this entry
 abbrev pub IsUnclean : Known → ChoiceMade → EntryAt → Type 0
 IsUnclean known choice entry =
     (first : List ℕ) (texts : ℕ → Option (List ℕ)) (run : Run) → AreKnown known (length run) first texts → run_of first texts ≡ Ok run →
     unclean_at run (judged_choice choice) ≡ Some (record { rank = entry.rank; line = entry.line })
 
--- the fault is that of reading the journals, or that of their cut; no head, call or end of a recording of known files has
--- one
+-- the fault is that of reading the journals, or that of their cut, once they are read; no head, call or end of a recording
+-- of known files has one
 abbrev pub IsFaultOfJudge : Known → ChoiceMade → JudgeFault → Type 0
 IsFaultOfJudge known choice (Read fault) = IsFaultOfFiles known fault
-IsFaultOfJudge known choice (Unclean entry) = IsUnclean known choice entry
+IsFaultOfJudge known choice (Unclean entry) = IsUnclean known choice entry × HoldNoFault known
 IsFaultOfJudge known choice Memory = ⊤
 IsFaultOfJudge known choice Write = ⊤
-IsFaultOfJudge known choice fault = HoldNoRun known
+IsFaultOfJudge known choice fault = HoldNoRun known × HoldNoFault known
 
 -- only a failed write leaves the output other than it was: with a prefix of a text, and one failure more
 abbrev pub LeavesAt : {O : Type 0} → (O → Option (List ℕ)) → (O → ℕ) → O → O → JudgeFault → Type 0

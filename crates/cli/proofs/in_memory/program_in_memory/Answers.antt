@@ -1,5 +1,7 @@
 -- The end is that of the lemmas.
+use Rattle.std.proofs.Common.{refl}
 use Rattle.cli.proofs.InMemoryLemmas.{checks}
+use Rattle.cli.proofs.JudgeInMemory.{judges}
 use Rattle.cli.proofs.LintInMemory.{lints}
 use Rattle.cli.proofs.in_memory.program_in_memory.Goals as goal
 
@@ -8,3 +10,6 @@ returns-clause-check g c other = checks _ _ _ _ _ _ _ _ _ _ c.program.ensures ot
 
 pub returns-clause-lint : goal.returns-clause-lint
 returns-clause-lint g c other = lints _ _ _ _ _ _ _ _ _ _ c.program.ensures other
+
+pub returns-clause-judge : goal.returns-clause-judge
+returns-clause-judge g c other = judges _ _ _ _ _ _ _ _ _ _ c.program.ensures (λ path. refl) other
