@@ -3,7 +3,7 @@ use Rattle.std.proofs.Common.{◌≡◌, ◌≢◌, ◌⊎◌, ◌∙◌, ℕ, B
 use Rattle.clap.specs.Walk.{Text}
 use Rattle.cli.specs.inner.Answer.{Complains, IsAnswered, IsOfError, Refuses, Shows}
 use Rattle.cli.specs.CommandLine.{Answers}
-use Rattle.cli.specs.ExitContract.{Ends, IsDone, IsFaultOf, IsLeftAt, IsTried, TellsLine}
+use Rattle.cli.specs.ExitContract.{Ends, IsDone, IsFaultOf, IsLeftAt, IsTried, Made, TellsLine}
 use Rattle.cli.specs.Faults.{status_of_fault}
 use Rattle.cli.specs.FaultTexts.{line_of_fault}
 use Rattle.cli.specs.Openings.{Fate}
@@ -78,19 +78,19 @@ refused {O} written failures is_done may_end_in old mid new fault (Err (complain
         (write, (line_of_fault fault, subst (λ (o : O). FailsToWrite written failures o new (line_of_fault fault)) same broken.1))
 
 -- a text that was asked for
-pub shown : {O : Type 0} (written : O → Option Text) (failures : O → ℕ) (fate : Text → Fate → Type 0) (told : Text → Option Text) (named : Text → Option Bool) (old new : O) (text : String Global) (answer : Result Status Complaint) →
-    Shows written failures old new (string_bytes text) status.Free answer → IsAnswered written failures (IsDone told named (Said text false)) (IsFaultOf fate told named (Said text false)) old new answer
-shown written failures fate told named old new text (Ok ended) shows = (Whole (string_bytes text), shows.1, inl (shows.0, refl, refl))
-shown written failures fate told named old new text (Err (complaint.Usage said)) shows = absurd shows
-shown written failures fate told named old new text (Err (complaint.Fault fault)) shows = (
+pub shown : {O : Type 0} (written : O → Option Text) (failures : O → ℕ) (fate : Text → Fate → Type 0) (told : Text → Option Text) (named : Text → Option Bool) (made : Made) (old new : O) (text : String Global) (answer : Result Status Complaint) →
+    Shows written failures old new (string_bytes text) status.Free answer → IsAnswered written failures (IsDone told named made (Said text false)) (IsFaultOf fate told named (Said text false)) old new answer
+shown written failures fate told named made old new text (Ok ended) shows = (Whole (string_bytes text), shows.1, inl (shows.0, refl, refl))
+shown written failures fate told named made old new text (Err (complaint.Usage said)) shows = absurd shows
+shown written failures fate told named made old new text (Err (complaint.Fault fault)) shows = (
   subst (λ (f : Fault). IsOfError (status_of_fault f)) (sym shows.0) tt,
   (shows.0, refl),
   subst (λ (f : Fault). LeavesAtFault written failures old new f) (sym shows.0) (string_bytes text, shows.1),
 )
 
 -- the end of the program
-module _ {O E : Type 0} (written : O → Option Text) (failures : O → ℕ) (written_errors : E → Option Text) (failed_errors : E → ℕ) (fate : Text → Fate → Type 0) (told : Text → Option Text) (named : Text → Option Bool) (old new : O) where
-  pub ends_at_once : (errors errors_after : E) (words : List Text) (asked : CommandLine) (ended : Status) → Answers words asked → IsAnswered written failures (IsDone told named asked) (IsFaultOf fate told named asked) old new (Ok ended) → errors_after ≡ errors → Ends written failures written_errors failed_errors fate told named old new errors errors_after words ended
+module _ {O E : Type 0} (written : O → Option Text) (failures : O → ℕ) (written_errors : E → Option Text) (failed_errors : E → ℕ) (fate : Text → Fate → Type 0) (told : Text → Option Text) (named : Text → Option Bool) (made : Made) (old new : O) where
+  pub ends_at_once : (errors errors_after : E) (words : List Text) (asked : CommandLine) (ended : Status) → Answers words asked → IsAnswered written failures (IsDone told named made asked) (IsFaultOf fate told named asked) old new (Ok ended) → errors_after ≡ errors → Ends written failures written_errors failed_errors fate told named made old new errors errors_after words ended
   ends_at_once errors errors_after words asked ended answers is same = record {
     asked = asked;
     answers = answers;
@@ -102,7 +102,7 @@ module _ {O E : Type 0} (written : O → Option Text) (failures : O → ℕ) (wr
   }
 
   ends_in_fault : (errors errors_after : E) (words : List Text) (asked : CommandLine) (ended : Status) (fault : Fault) → Answers words asked → IsOfError (status_of_fault fault) → IsFaultOf fate told named asked fault → LeavesAtFault written failures old new fault → ended ≡ status_of_fault fault → Tries written_errors failed_errors errors errors_after (line_of_fault fault) →
-      Ends written failures written_errors failed_errors fate told named old new errors errors_after words ended
+      Ends written failures written_errors failed_errors fate told named made old new errors errors_after words ended
   ends_in_fault errors errors_after words asked ended fault answers wants is_fault left is tries =
       let out = of_left written failures old new fault left in
       let err = of_tries written_errors failed_errors errors errors_after (line_of_fault fault) tries in
@@ -116,7 +116,7 @@ module _ {O E : Type 0} (written : O → Option Text) (failures : O → ℕ) (wr
         errors = err.1;
       }
 
-  pub ends_in_complaint : (errors errors_after : E) (words : List Text) (asked : CommandLine) (ended : Status) (complaint : Complaint) → Answers words asked → IsAnswered written failures (IsDone told named asked) (IsFaultOf fate told named asked) old new (Err complaint) → Complains written_errors failed_errors errors errors_after complaint ended → Ends written failures written_errors failed_errors fate told named old new errors errors_after words ended
+  pub ends_in_complaint : (errors errors_after : E) (words : List Text) (asked : CommandLine) (ended : Status) (complaint : Complaint) → Answers words asked → IsAnswered written failures (IsDone told named made asked) (IsFaultOf fate told named asked) old new (Err complaint) → Complains written_errors failed_errors errors errors_after complaint ended → Ends written failures written_errors failed_errors fate told named made old new errors errors_after words ended
   ends_in_complaint errors errors_after words asked ended (complaint.Usage said) answers is complains =
       let err = of_tries written_errors failed_errors errors errors_after _ complains.1 in
       record {
@@ -124,13 +124,13 @@ module _ {O E : Type 0} (written : O → Option Text) (failures : O → ℕ) (wr
         answers = answers;
         out = Nothing;
         err = err.0;
-        by = inl (subst (λ (s : Status). IsDone told named asked s Nothing err.0) (sym complains.0) (is.1 err.0 err.2));
+        by = inl (subst (λ (s : Status). IsDone told named made asked s Nothing err.0) (sym complains.0) (is.1 err.0 err.2));
         output = is.0;
         errors = err.1;
       }
   ends_in_complaint errors errors_after words asked ended (complaint.Fault fault) answers is complains = by_case complains.1
     where
-      by_case : (complains.0 ≡ fault) ⊎ ((complains.0 ≡ Memory) × (fault ≢ Write)) → Ends written failures written_errors failed_errors fate told named old new errors errors_after words ended
+      by_case : (complains.0 ≡ fault) ⊎ ((complains.0 ≡ Memory) × (fault ≢ Write)) → Ends written failures written_errors failed_errors fate told named made old new errors errors_after words ended
       by_case (inl same) =
           ends_in_fault errors errors_after words asked ended fault answers is.0 is.1 is.2 (complains.2 ∙ ap status_of_fault same)
           (subst (λ (f : Fault). Tries written_errors failed_errors errors errors_after (line_of_fault f)) same complains.3)

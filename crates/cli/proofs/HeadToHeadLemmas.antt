@@ -40,7 +40,7 @@ use Rattle.report.specs.declared.write.Format.TheVariants as format
 use Rattle.gather.specs.Outcomes.{fault_of_rank, recording_of_traces, refusal_of}
 use Rattle.cli.proofs.TraceLemmas.{hold_read}
 use Rattle.cli.specs.CommandLine.{Answers, CheckRun, CloseJournals, JudgeJournals, LintTrace, Task, program, task_in}
-use Rattle.cli.specs.ExitContract.{Ends, EndsBy, EndsInReport}
+use Rattle.cli.specs.ExitContract.{Ends, EndsBy, EndsInReport, Made}
 use Rattle.cli.specs.Faults.{status_of_fault}
 use Rattle.cli.specs.HeadToHead.{report}
 use Rattle.cli.specs.Openings.{Fate}
@@ -224,31 +224,31 @@ module _ (fate : Text → Fate → Type 0) (told : Text → Option Text) (named 
           errors = subst (Becomes written_errors failed_errors old_errors new_errors) ends.errors errors;
         }
 
-    of_asked : (asked : CommandLine) (out err : Written) → Answers words asked → EndsBy fate told named asked ended out err → Becomes written failures old new out → Becomes written_errors failed_errors old_errors new_errors err → ended ≢ status.Fault → Hangs written failures old new old_errors new_errors ended
-    of_asked (Check path files its progress) out err answers (inl done) output errors other =
+    of_asked : (made : Made) (asked : CommandLine) (out err : Written) → Answers words asked → EndsBy fate told named made asked ended out err → Becomes written failures old new out → Becomes written_errors failed_errors old_errors new_errors err → ended ≢ status.Fault → Hangs written failures old new old_errors new_errors ended
+    of_asked made (Check path files its progress) out err answers (inl done) output errors other =
         let e : Some (CheckRun path.now (map (λ file. file.now) files.items) its) ≡ Some task = sym answers.1 ∙ asks in
         of_report path.now files.items its out err (ap head_in e) (ap files_in e) (ap options_in e) done output errors
-    of_asked (Check path files its progress) out err answers (inr (fault, is_fault, ends)) output errors other =
+    of_asked made (Check path files its progress) out err answers (inr (fault, is_fault, ends)) output errors other =
         let e : Some (CheckRun path.now (map (λ file. file.now) files.items) its) ≡ Some task = sym answers.1 ∙ asks in
         absurd (no_fault_told path.now files.items fault (ap head_in e) (ap files_in e) is_fault (λ same. other (ends.0 ∙ same)))
-    of_asked (Lint file) out err answers by output errors other =
+    of_asked made (Lint file) out err answers by output errors other =
         let e : Some (LintTrace file.now) ≡ Some task = sym answers.1 ∙ asks in
         let no : false ≡ true = ap is_check e in cc
-    of_asked (Judge folder manner progress) out err answers by output errors other =
+    of_asked made (Judge folder manner progress) out err answers by output errors other =
         let e : Some (JudgeJournals folder.now manner) ≡ Some task = sym answers.1 ∙ asks in
         let no : false ≡ true = ap is_check e in cc
-    of_asked (Close folder target choice) out err answers by output errors other =
+    of_asked made (Close folder target choice) out err answers by output errors other =
         let e : Some (CloseJournals folder.now target.now choice) ≡ Some task = sym answers.1 ∙ asks in
         let no : false ≡ true = ap is_check e in cc
-    of_asked (Said text false) out err (some, (kind, among, is)) by output errors other = absurd (no_kind kind among)
-    of_asked (Said text true) out err (some, inl found) by output errors other = absurd (no_kind found.0 found.1)
-    of_asked (Said text true) out err (some, inr none) by output errors other = let e : None ≡ Some task = sym none.1 ∙ asks in cc
-    of_asked NoMemory out err answers (inl done) output errors other = absurd done
-    of_asked NoMemory out err answers (inr (fault, is, ends)) output errors other = absurd (other (ends.0 ∙ ap status_of_fault is))
+    of_asked made (Said text false) out err (some, (kind, among, is)) by output errors other = absurd (no_kind kind among)
+    of_asked made (Said text true) out err (some, inl found) by output errors other = absurd (no_kind found.0 found.1)
+    of_asked made (Said text true) out err (some, inr none) by output errors other = let e : None ≡ Some task = sym none.1 ∙ asks in cc
+    of_asked made NoMemory out err answers (inl done) output errors other = absurd done
+    of_asked made NoMemory out err answers (inr (fault, is, ends)) output errors other = absurd (other (ends.0 ∙ ap status_of_fault is))
 
 -- the program over them
-pub ends_in_hang : {O E : Type 0} {written : O → Option Text} {failures : O → ℕ} {written_errors : E → Option Text} {failed_errors : E → ℕ} {fate : Text → Fate → Type 0} {told : Text → Option Text} {named : Text → Option Bool} {old new : O} {old_errors new_errors : E} {given : List Text} {ended : Status} →
-    Ends written failures written_errors failed_errors fate told named old new old_errors new_errors given ended → given ≡ words → told (codes "head") ≡ Some head → told (codes "r0") ≡ Some first → told (codes "r1") ≡ Some second → ended ≢ status.Fault →
+pub ends_in_hang : {O E : Type 0} {written : O → Option Text} {failures : O → ℕ} {written_errors : E → Option Text} {failed_errors : E → ℕ} {fate : Text → Fate → Type 0} {told : Text → Option Text} {named : Text → Option Bool} {made : Made} {old new : O} {old_errors new_errors : E} {given : List Text} {ended : Status} →
+    Ends written failures written_errors failed_errors fate told named made old new old_errors new_errors given ended → given ≡ words → told (codes "head") ≡ Some head → told (codes "r0") ≡ Some first → told (codes "r1") ≡ Some second → ended ≢ status.Fault →
     Hangs written failures old new old_errors new_errors ended
-ends_in_hang {written = written} {failures = failures} {written_errors = written_errors} {failed_errors = failed_errors} {fate = fate} {told = told} {named = named} {old = old} {new = new} {old_errors = old_errors} {new_errors = new_errors} {ended = ended} ends are is_head is_first is_second other =
-    of_asked fate told named is_head is_first is_second written failures written_errors failed_errors old new old_errors new_errors ended ends.asked ends.out ends.err (subst (λ (w : List Text). Answers w ends.asked) are ends.answers) ends.by ends.output ends.errors other
+ends_in_hang {written = written} {failures = failures} {written_errors = written_errors} {failed_errors = failed_errors} {fate = fate} {told = told} {named = named} {made = made} {old = old} {new = new} {old_errors = old_errors} {new_errors = new_errors} {ended = ended} ends are is_head is_first is_second other =
+    of_asked fate told named is_head is_first is_second written failures written_errors failed_errors old new old_errors new_errors ended made ends.asked ends.out ends.err (subst (λ (w : List Text). Answers w ends.asked) are ends.answers) ends.by ends.output ends.errors other

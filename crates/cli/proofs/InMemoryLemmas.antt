@@ -17,7 +17,7 @@ use Rattle.gather.specs.Outcomes.{recording_of_traces, refusal_of}
 use Rattle.gather.specs.declared.fault.Refusal.{Refusal}
 use Rattle.cli.proofs.TraceLemmas.{hold_read}
 use Rattle.cli.specs.CommandLine.{Answers, Asks, CheckRun, CloseJournals, JudgeJournals, LintTrace, Task, program}
-use Rattle.cli.specs.ExitContract.{Ends, EndsBy, EndsInFault, EndsInReport, IsTried, TellsLine}
+use Rattle.cli.specs.ExitContract.{Ends, EndsBy, EndsInFault, EndsInReport, IsTried, Made, TellsLine}
 use Rattle.cli.specs.FaultTexts.{line_of_fault}
 use Rattle.cli.specs.Faults.{status_of_fault}
 use Rattle.cli.specs.InMemory.{ChecksTexts, EndsCheck, IsTriedOn}
@@ -185,14 +185,14 @@ module _ (fate : Text → Fate → Type 0) (told : Text → Option Text) (option
   by_fault path given (UncleanCut entry) same those says ends other = absurd says
   by_fault path given fault same those says ends other = absurd (other ends.0)
 
-  module _ (named : Text → Option Bool) (words : List Text) (asks : Asks words (CheckRun head files options)) where
+  module _ (named : Text → Option Bool) (made : Made) (words : List Text) (asks : Asks words (CheckRun head files options)) where
     abbrev task : Task
     task = CheckRun head files options
 
     no_kind : (kind : ErrorKind) → IsAmong kind (fault_of program words) → ⊥
     no_kind kind among = subst (λ (kinds : Kinds). IsAmong kind kinds) asks.0 among
 
-    by_asked : (asked : CommandLine) → Answers words asked → EndsBy fate told named asked ended out err → ended ≢ status.Fault → Checked
+    by_asked : (asked : CommandLine) → Answers words asked → EndsBy fate told named made asked ended out err → ended ≢ status.Fault → Checked
     by_asked (Check path given its progress) answers (inl done) other =
         let e : Some (CheckRun path.now (map (λ file. file.now) given.items) its) ≡ Some task = sym answers.1 ∙ asks.1 in
         by_report path.now given.items its (ap head_in e) (ap files_in e) (ap (options_in options) e) done
@@ -214,8 +214,8 @@ module _ (fate : Text → Fate → Type 0) (told : Text → Option Text) (option
     by_asked NoMemory answers (inl done) other = absurd done
     by_asked NoMemory answers (inr (fault, is, ends)) other = absurd (other (ends.0 ∙ ap status_of_fault is))
 
-pub checks : (fate : Text → Fate → Type 0) (told : Text → Option Text) (named : Text → Option Bool) (failures : MemoryOutput → ℕ) (old new old_errors new_errors : MemoryOutput) (words : List Text) (ended : Status) →
-    Ends into_memory failures into_memory failures fate told named old new old_errors new_errors words ended → ended ≢ status.Fault →
+pub checks : (fate : Text → Fate → Type 0) (told : Text → Option Text) (named : Text → Option Bool) (made : Made) (failures : MemoryOutput → ℕ) (old new old_errors new_errors : MemoryOutput) (words : List Text) (ended : Status) →
+    Ends into_memory failures into_memory failures fate told named made old new old_errors new_errors words ended → ended ≢ status.Fault →
     ChecksTexts told words ended (bytes_written old) (bytes_written new) (bytes_written old_errors) (bytes_written new_errors)
-checks fate told named failures old new old_errors new_errors words ended ends other head files options text texts asks is_head are =
-    by_asked fate told options head files text texts is_head are failures old new old_errors new_errors ended ends.out ends.err ends.output ends.errors named words asks ends.asked ends.answers ends.by other
+checks fate told named made failures old new old_errors new_errors words ended ends other head files options text texts asks is_head are =
+    by_asked fate told options head files text texts is_head are failures old new old_errors new_errors ended ends.out ends.err ends.output ends.errors named made words asks ends.asked ends.answers ends.by other

@@ -18,7 +18,7 @@ use Rattle.judging.specs.UnderWay.{EntryAt, unclean_at}
 use Rattle.judging.specs.declared.judge.Manner.{Manner}
 use Rattle.cli.proofs.InMemoryLemmas.{into_memory, left, wrote}
 use Rattle.cli.specs.CommandLine.{Answers, Asks, CheckRun, CloseJournals, JudgeJournals, LintTrace, Task, program}
-use Rattle.cli.specs.ExitContract.{Ends, EndsBy, EndsInFault, EndsInJudged, TellsLine}
+use Rattle.cli.specs.ExitContract.{Ends, EndsBy, EndsInFault, EndsInJudged, Made, TellsLine}
 use Rattle.cli.specs.FaultTexts.{line_of_fault}
 use Rattle.cli.specs.Faults.{status_of_fault}
 use Rattle.cli.specs.JournalFolders.{journal_path, known_by, known_in}
@@ -46,10 +46,10 @@ abbrev is_judge : Option Task → Bool
 is_judge (Some (JudgeJournals folder manner)) = true
 is_judge _ = false
 
-not_both : (answer : Result Run RankFault) (run : Run) (fault : RankFault) → answer ≡ Ok run → answer ≡ Err fault → ⊥
+pub not_both : (answer : Result Run RankFault) (run : Run) (fault : RankFault) → answer ≡ Ok run → answer ≡ Err fault → ⊥
 not_both answer run fault p q = let e : ◌≡◌ {A = Result Run RankFault} (Ok run) (Err fault) = sym p ∙ q in cc
 
-one_fault : (answer : Result Run RankFault) (a b : RankFault) → answer ≡ Err a → answer ≡ Err b → a ≡ b
+pub one_fault : (answer : Result Run RankFault) (a b : RankFault) → answer ≡ Err a → answer ≡ Err b → a ≡ b
 one_fault answer a b p q = let e : ◌≡◌ {A = Result Run RankFault} (Err a) (Err b) = sym p ∙ q in cc
 
 one_entry : (answer : Option EntryAt) (a b : EntryAt) → answer ≡ Some a → answer ≡ Some b → a ≡ b
@@ -177,7 +177,7 @@ module _ (folder : Text) (manner : Manner) (words : List Text) (asks : Asks word
   asked_is (Said said true) (some, inr none) = let e : None ≡ Some task = sym none.1 ∙ asks.1 in cc
   asked_is NoMemory answers = inl refl
 
-module _ (fate : Text → Fate → Type 0) (told : Text → Option Text) (named : Text → Option Bool) (folder : Text) (manner : Manner) (first : Text) (texts : ℕ → Option Text) (are : (ranks : ℕ) → AreKnown (known_in told named folder) ranks first texts)
+module _ (fate : Text → Fate → Type 0) (told : Text → Option Text) (named : Text → Option Bool) (made : Made) (folder : Text) (manner : Manner) (first : Text) (texts : ℕ → Option Text) (are : (ranks : ℕ) → AreKnown (known_in told named folder) ranks first texts)
     (failures : MemoryOutput → ℕ) (old new old_errors new_errors : MemoryOutput) (ended : Status) (out err : Written) (output : Becomes into_memory failures old new out) (errors : Becomes into_memory failures old_errors new_errors err) where
   abbrev Judged : Type 0
   Judged = EndsJudge manner first texts ended (bytes_written old) (bytes_written new) (bytes_written old_errors) (bytes_written new_errors)
@@ -196,18 +196,18 @@ module _ (fate : Text → Fate → Type 0) (told : Text → Option Text) (named 
   by_judged path same (inl done) other = by_done path same done
   by_judged path same (inr it) other = by_told path it.0 same it.1 it.2 other
 
-  no_memory : EndsBy fate told named NoMemory ended out err → ended ≢ status.Fault → ⊥
+  no_memory : EndsBy fate told named made NoMemory ended out err → ended ≢ status.Fault → ⊥
   no_memory (inl done) other = done
   no_memory (inr (fault, is, ends)) other = other (ends.0 ∙ ap status_of_fault is)
 
-  by_asked : (asked : CommandLine) (words : List Text) (asks : Asks words (JudgeJournals folder manner)) → Answers words asked → EndsBy fate told named asked ended out err → ended ≢ status.Fault → Judged
+  by_asked : (asked : CommandLine) (words : List Text) (asks : Asks words (JudgeJournals folder manner)) → Answers words asked → EndsBy fate told named made asked ended out err → ended ≢ status.Fault → Judged
   by_asked asked words asks answers by other =
-      ⊎_elim (λ (none : asked ≡ NoMemory). absurd (no_memory (subst (λ (a : CommandLine). EndsBy fate told named a ended out err) none by) other))
-      (λ (it : IsThat folder manner words asks asked). by_judged it.0.now it.2 (subst (λ (a : CommandLine). EndsBy fate told named a ended out err) it.3 by) other)
+      ⊎_elim (λ (none : asked ≡ NoMemory). absurd (no_memory (subst (λ (a : CommandLine). EndsBy fate told named made a ended out err) none by) other))
+      (λ (it : IsThat folder manner words asks asked). by_judged it.0.now it.2 (subst (λ (a : CommandLine). EndsBy fate told named made a ended out err) it.3 by) other)
       (asked_is folder manner words asks asked answers)
 
-pub judges : (fate : Text → Fate → Type 0) (told : Text → Option Text) (named : Text → Option Bool) (failures : MemoryOutput → ℕ) (old new old_errors new_errors : MemoryOutput) (words : List Text) (ended : Status) →
-    Ends into_memory failures into_memory failures fate told named old new old_errors new_errors words ended → ((path : Text) → named path ≡ Some (is_some (told path))) → ended ≢ status.Fault →
+pub judges : (fate : Text → Fate → Type 0) (told : Text → Option Text) (named : Text → Option Bool) (made : Made) (failures : MemoryOutput → ℕ) (old new old_errors new_errors : MemoryOutput) (words : List Text) (ended : Status) →
+    Ends into_memory failures into_memory failures fate told named made old new old_errors new_errors words ended → ((path : Text) → named path ≡ Some (is_some (told path))) → ended ≢ status.Fault →
     JudgesJournals told words ended (bytes_written old) (bytes_written new) (bytes_written old_errors) (bytes_written new_errors)
-judges fate told named failures old new old_errors new_errors words ended ends are other folder manner first asks is_first =
-    by_asked fate told named folder manner first (λ rank. told (journal_path folder rank)) (known_files told named are folder first is_first) failures old new old_errors new_errors ended ends.out ends.err ends.output ends.errors ends.asked words asks ends.answers ends.by other
+judges fate told named made failures old new old_errors new_errors words ended ends are other folder manner first asks is_first =
+    by_asked fate told named made folder manner first (λ rank. told (journal_path folder rank)) (known_files told named are folder first is_first) failures old new old_errors new_errors ended ends.out ends.err ends.output ends.errors ends.asked words asks ends.answers ends.by other

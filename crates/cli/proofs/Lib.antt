@@ -10,5 +10,7 @@ pub mod HeadToHeadLemmas
 pub mod InMemoryLemmas
 pub mod LintInMemory
 pub mod JudgeInMemory
+pub mod MadeLemmas
+pub mod CloseInMemory
 pub mod JournalLemmas
 pub mod FolderLemmas

@@ -19,7 +19,7 @@ use Rattle.driver.specs.VerdictContract.{is_from_outside}
 use Rattle.cli.proofs.InMemoryLemmas.{into_memory, left, wrote}
 use Rattle.cli.proofs.TraceLemmas.{holds_read}
 use Rattle.cli.specs.CommandLine.{Answers, Asks, CheckRun, CloseJournals, JudgeJournals, LintTrace, Task, program}
-use Rattle.cli.specs.ExitContract.{Ends, EndsBy, EndsInCount, EndsInFault, TellsLine}
+use Rattle.cli.specs.ExitContract.{Ends, EndsBy, EndsInCount, EndsInFault, Made, TellsLine}
 use Rattle.cli.specs.FaultTexts.{line_of_fault}
 use Rattle.cli.specs.Faults.{status_of_fault}
 use Rattle.cli.specs.InMemory.{EndsLint, LintsText, lint_fault}
@@ -97,11 +97,11 @@ module _ (told : Text → Option Text) (file text : Text) (is_file : told file �
   by_fault path (UncleanCut entry) same says ends other = absurd says
   by_fault path fault same says ends other = absurd (other ends.0)
 
-  module _ (fate : Text → Fate → Type 0) (named : Text → Option Bool) (words : List Text) (asks : Asks words (LintTrace file)) where
+  module _ (fate : Text → Fate → Type 0) (named : Text → Option Bool) (made : Made) (words : List Text) (asks : Asks words (LintTrace file)) where
     no_kind : (kind : ErrorKind) → IsAmong kind (fault_of program words) → ⊥
     no_kind kind among = subst (λ (kinds : Kinds). IsAmong kind kinds) asks.0 among
 
-    by_asked : (asked : CommandLine) → Answers words asked → EndsBy fate told named asked ended out err → ended ≢ status.Fault → Linted
+    by_asked : (asked : CommandLine) → Answers words asked → EndsBy fate told named made asked ended out err → ended ≢ status.Fault → Linted
     by_asked (Lint path) answers (inl done) other =
         let e : Some (LintTrace path.now) ≡ Some (LintTrace file) = sym answers.1 ∙ asks.1 in
         by_count path.now (ap file_in e) done
@@ -123,8 +123,8 @@ module _ (told : Text → Option Text) (file text : Text) (is_file : told file �
     by_asked NoMemory answers (inl done) other = absurd done
     by_asked NoMemory answers (inr (fault, is, ends)) other = absurd (other (ends.0 ∙ ap status_of_fault is))
 
-pub lints : (fate : Text → Fate → Type 0) (told : Text → Option Text) (named : Text → Option Bool) (failures : MemoryOutput → ℕ) (old new old_errors new_errors : MemoryOutput) (words : List Text) (ended : Status) →
-    Ends into_memory failures into_memory failures fate told named old new old_errors new_errors words ended → ended ≢ status.Fault →
+pub lints : (fate : Text → Fate → Type 0) (told : Text → Option Text) (named : Text → Option Bool) (made : Made) (failures : MemoryOutput → ℕ) (old new old_errors new_errors : MemoryOutput) (words : List Text) (ended : Status) →
+    Ends into_memory failures into_memory failures fate told named made old new old_errors new_errors words ended → ended ≢ status.Fault →
     LintsText told words ended (bytes_written old) (bytes_written new) (bytes_written old_errors) (bytes_written new_errors)
-lints fate told named failures old new old_errors new_errors words ended ends other file text asks is_file =
-    by_asked told file text is_file failures old new old_errors new_errors ended ends.out ends.err ends.output ends.errors fate named words asks ends.asked ends.answers ends.by other
+lints fate told named made failures old new old_errors new_errors words ended ends other file text asks is_file =
+    by_asked told file text is_file failures old new old_errors new_errors ended ends.out ends.err ends.output ends.errors fate named made words asks ends.asked ends.answers ends.by other

@@ -12,8 +12,12 @@ use Rattle.cli.specs.Lints.{IsCountOf, IsFaultOfLint}
 use Rattle.cli.specs.Openings.{Fate}
 use Rattle.cli.specs.Statuses.{status_of_verdict}
 use Rattle.cli.specs.Texts.{IsFaultOfCheck, IsReportOf, IsVerdictOfTexts}
+use Rattle.closing.specs.Entry.{Choice}
+use Rattle.closing.specs.Recordings.{choice_in}
+use Rattle.judging.specs.Closing.{IsWritten}
 use Rattle.judging.specs.JournalTexts.{Known}
 use Rattle.judging.specs.Judging.{IsJudgedReport}
+use Rattle.judging.specs.declared.close.FileName.{FileName}
 use Rattle.judging.specs.declared.judge.Manner.{Manner}
 use Rattle.cli.specs.declared.options.Options.{Options}
 use Rattle.cli.specs.declared.fault.Fault.{Fault as FaultOf}
@@ -57,9 +61,13 @@ pub record EndsInJudged (known : Known) (manner : Manner) (status : Status) (out
   pub output : out ≡ Whole report
   pub errors : err ≡ Nothing
 
--- the recording of journals was written, and nothing is on either output. What is in its files isn't said here
-abbrev pub EndsInFiles : Status → Written → Written → Type 0
-EndsInFiles status out err = (status ≡ Free) × (out ≡ Nothing) × (err ≡ Nothing)
+-- the recording of journals was written into a folder, and nothing is on either output. Where the files of journals are
+-- known, they hold a run, and the files of the folder, as far as their texts are known, are its recording
+pub record EndsInFiles (known : Known) (choice : Choice) (empty : Option Text) (text : FileName → Option Text) (status : Status) (out err : Written) : Type 0 where
+  pub is_written : IsWritten known choice empty text
+  pub status_is : status ≡ Free
+  pub output : out ≡ Nothing
+  pub errors : err ≡ Nothing
 
 -- the text was written, whole unless a write failed
 abbrev pub IsTried : Text → Written → Type 0
@@ -88,15 +96,23 @@ TellsLine _ fault out err = IsLeftAt fault out × IsTried (line_of_fault fault) 
 abbrev pub EndsInFault : FaultOf → Status → Written → Written → Type 0
 EndsInFault fault status out err = (status ≡ status_of_fault fault) × TellsLine status fault out err
 
+-- what a maker says of the texts of files when they are made, and of the file with a name in the folder with a path
+pub record Made : Type 0 where
+  pub empty : Option Text
+  pub text : Text → FileName → Option Text
+
+abbrev pub made_by : {M : Type 0} → (M → Option Text) → (M → Text → FileName → Option Text) → M → M → Made
+made_by empty text old new = record { empty = empty old; text = text new }
+
 -- what the words ask for was done, and reported
-abbrev pub IsDone : (Text → Option Text) → (Text → Option Bool) → CommandLine → Status → Written → Written → Type 0
-IsDone told named (Check head files options progress) = EndsInReport options (told head.now) (map (λ file. told file.now) files.items)
-IsDone told named (Lint file) = EndsInCount (told file.now)
-IsDone told named (Judge folder manner progress) = EndsInJudged (known_in told named folder.now) manner
-IsDone told named (Close folder out choice) = EndsInFiles
-IsDone told named (Said text false) = EndsInText (string_bytes text)
-IsDone told named (Said text true) = EndsInUsage (string_bytes text)
-IsDone told named NoMemory = λ status out err. ⊥
+abbrev pub IsDone : (Text → Option Text) → (Text → Option Bool) → Made → CommandLine → Status → Written → Written → Type 0
+IsDone told named made (Check head files options progress) = EndsInReport options (told head.now) (map (λ file. told file.now) files.items)
+IsDone told named made (Lint file) = EndsInCount (told file.now)
+IsDone told named made (Judge folder manner progress) = EndsInJudged (known_in told named folder.now) manner
+IsDone told named made (Close folder out choice) = EndsInFiles (known_in told named folder.now) (choice_in choice) made.empty (made.text out.now)
+IsDone told named made (Said text false) = EndsInText (string_bytes text)
+IsDone told named made (Said text true) = EndsInUsage (string_bytes text)
+IsDone told named made NoMemory = λ status out err. ⊥
 
 -- the faults with which that may end
 abbrev pub IsFaultOf : (Text → Fate → Type 0) → (Text → Option Text) → (Text → Option Bool) → CommandLine → FaultOf → Type 0
@@ -108,18 +124,19 @@ IsFaultOf fate told named (Said text is_error) fault = (fault ≡ Write) × (is_
 IsFaultOf fate told named NoMemory fault = fault ≡ Memory
 
 -- what the words ask for was done, or a fault was reported
-abbrev pub EndsBy : (Text → Fate → Type 0) → (Text → Option Text) → (Text → Option Bool) → CommandLine → Status → Written → Written → Type 0
-EndsBy fate told named words status out err = IsDone told named words status out err ⊎ ((fault : FaultOf) × IsFaultOf fate told named words fault × EndsInFault fault status out err)
+abbrev pub EndsBy : (Text → Fate → Type 0) → (Text → Option Text) → (Text → Option Bool) → Made → CommandLine → Status → Written → Written → Type 0
+EndsBy fate told named made words status out err = IsDone told named made words status out err ⊎ ((fault : FaultOf) × IsFaultOf fate told named words fault × EndsInFault fault status out err)
 
 -- standard output and standard error, each by what was written to it and how many writes failed, and as it was
--- and as it is; what may become of files, their texts, and which there are, where that is known
-module _ {O E : Type 0} (written : O → Option Text) (failures : O → ℕ) (written_errors : E → Option Text) (failed_errors : E → ℕ) (fate : Text → Fate → Type 0) (told : Text → Option Text) (named : Text → Option Bool) (old new : O) (old_errors new_errors : E) where
+-- and as it is; what may become of files, their texts, and which there are, where that is known; and what is known of those
+-- that are made
+module _ {O E : Type 0} (written : O → Option Text) (failures : O → ℕ) (written_errors : E → Option Text) (failed_errors : E → ℕ) (fate : Text → Fate → Type 0) (told : Text → Option Text) (named : Text → Option Bool) (made : Made) (old new : O) (old_errors new_errors : E) where
   -- the words ask for something, and the program ends by that
   pub record Ends (words : List Text) (status : Status) : Type 0 where
     pub asked : CommandLine
     pub answers : Answers words asked
     pub out : Written
     pub err : Written
-    pub by : EndsBy fate told named asked status out err
+    pub by : EndsBy fate told named made asked status out err
     pub output : Becomes written failures old new out
     pub errors : Becomes written_errors failed_errors old_errors new_errors err

@@ -1,5 +1,6 @@
--- How a judgement of journals in memory ends, with outputs in memory. No premise is left: texts and outputs are known.
-use Rattle.std.specs.Prelude.{◌≡◌, ℕ, Option, Some, None, Ok, Err, List, ◌++◌, length, map}
+-- How `judge` and `close` of journals in memory end, with folders and outputs in memory. No premise is left: texts and
+-- outputs are known.
+use Rattle.std.specs.Prelude.{◌≡◌, ℕ, Option, Some, None, Ok, Err, List, [], ◌++◌, length, map}
 use Rattle.clap.specs.Walk.{Text}
 use Rattle.mpigroup.specs.Groups.{Groups, ranks_of}
 use Rattle.callstore.specs.Recordings.{Lists, IsClosed}
@@ -14,12 +15,17 @@ use Rattle.report.specs.PendingReport.{pending_report}
 use Rattle.report.specs.declared.judged.Judged.{Judged}
 use Rattle.closing.specs.Entries.{Run}
 use Rattle.closing.specs.Journals.{RankFault, run_of}
+use Rattle.closing.specs.Recording.{recording_of}
+use Rattle.closing.specs.Recordings.{choice_in}
+use Rattle.closing.specs.declared.choice.Choice.{Choice}
+use Rattle.judging.specs.Closing.{AreFilesOf}
 use Rattle.judging.specs.Judging.{IsRecordingOfRun}
 use Rattle.judging.specs.KnownCalls.{calls_at_opens, judged_choice}
 use Rattle.judging.specs.NamedCalls.{HaveLines, calls_in, calls_named}
 use Rattle.judging.specs.UnderWay.{EntryAt, unclean_at}
+use Rattle.judging.specs.declared.close.FileName.{FileName}
 use Rattle.judging.specs.declared.judge.Manner.{Manner}
-use Rattle.cli.specs.CommandLine.{Asks, JudgeJournals}
+use Rattle.cli.specs.CommandLine.{Asks, CloseJournals, JudgeJournals}
 use Rattle.cli.specs.FaultTexts.{line_of_fault}
 use Rattle.cli.specs.JournalFolders.{journal_path}
 use Rattle.cli.specs.Statuses.{status_of_verdict}
@@ -67,3 +73,18 @@ abbrev pub JudgesJournals : (Text → Option Text) → List Text → Status → 
 JudgesJournals told words ended old_out new_out old_err new_err =
     (folder : Text) (manner : Manner) (first : Text) → Asks words (JudgeJournals folder manner) → told (journal_path folder 0) ≡ Some first →
     EndsJudge manner first (λ rank. told (journal_path folder rank)) ended old_out new_out old_err new_err
+
+-- The end of `close` by these texts, and the texts of the files in the folder that it made, by their names. One of the two
+-- holds of each texts: they have a fault; or the files are exactly the recording of their run.
+pub record EndsClose (choice : Choice) (first : Text) (texts : ℕ → Option Text) (made : FileName → Option Text) (ended : Status) (old_out new_out old_err new_err : Text) : Type 0 where
+  pub of_fault : (fault : RankFault) → run_of first texts ≡ Err fault →
+      (ended ≡ status.Refused) × (new_out ≡ old_out ++ line_of_first fault) × (new_err ≡ old_err)
+  pub of_run : (run : Run) → run_of first texts ≡ Ok run →
+      AreFilesOf (Some []) made (recording_of run (choice_in choice)) × (ended ≡ status.Free) × (new_out ≡ old_out) × (new_err ≡ old_err)
+
+-- where the words ask to close the journals in a folder, and that of rank 0 is there, this ends by their texts; `made` is
+-- what a file that was made says, by its folder and its name
+abbrev pub ClosesJournals : (Text → Option Text) → (Text → FileName → Option Text) → List Text → Status → Text → Text → Text → Text → Type 0
+ClosesJournals told made words ended old_out new_out old_err new_err =
+    (folder out : Text) (choice : Choice) (first : Text) → Asks words (CloseJournals folder out choice) → told (journal_path folder 0) ≡ Some first →
+    EndsClose choice first (λ rank. told (journal_path folder rank)) (made out) ended old_out new_out old_err new_err

@@ -6,6 +6,7 @@
 ghost use Rattle.std.specs.Prelude.{◌≡◌, IfOk, OnErr, map, string_bytes};
 ghost use Rattle.std.specs.Process.{exit_status};
 ghost use Rattle.cli.specs.Argv.{EndsBySome, EndsGiven, status_in, status_of_words, text_of_words};
+ghost use Rattle.cli.specs.ExitContract.{made_by};
 ghost use Rattle.cli.specs.Openings.{fate_of};
 ghost use Rattle.cli.specs.Statuses.{code_of};
 ghost use Rattle.cli.specs.declared.argv.WordsFault.TheVariants.{NoMemory};
@@ -104,9 +105,10 @@ impl Termination for Ended {
 }
 
 /// The program on the words of the process.
-fn status_on<G, P, O, E, L, R>(
+fn status_on<G, P, M, O, E, L, R>(
     given: &G,
     opener: &P,
+    maker: &mut M,
     rt: &R,
     out: &mut O,
     err: &mut E,
@@ -114,25 +116,27 @@ fn status_on<G, P, O, E, L, R>(
 ) -> Result<Status, WordsFault>
 where
     G: Env + AllocGlobal,
-    P: Opener + Maker,
+    P: Opener,
+    M: Maker,
     O: Output,
     E: Output,
     L: Output + Send,
     R: Threads + Wait + Clock + Sync,
-    ensures ended { IfOk result (EndsBySome O.written O.failures E.written E.failures (fate_of P.In.left P.In.failures (P.may_give opener.now)) (P.told opener.now) (P.named opener.now) out.old out.new err.old err.new) }
+    ensures ended { IfOk result (EndsBySome O.written O.failures E.written E.failures (fate_of P.In.left P.In.failures (P.may_give opener.now)) (P.told opener.now) (P.named opener.now) (made_by M.empty M.text maker.old maker.new) out.old out.new err.old err.new) }
     ensures untouched { OnErr result ((out.new ≡ out.old) × (err.new ≡ err.old)) }
 {
     let words = with_files(given.alloc(), opener, words_given(given)?)?;
     let texts = as_texts(given.alloc(), words.as_slice())?;
     let words = texts.as_slice();
-    Ok(program(given.alloc(), words, opener, rt, out, err, screen))
+    Ok(program(given.alloc(), words, opener, maker, rt, out, err, screen))
 }
 
-/// Runs the program on the words of the process, over the opener's files, and reports words that can't be
-/// read.
-pub fn run<G, P, O, E, L, R>(
+/// Runs the program on the words of the process, over the opener's files and the maker's folders, and
+/// reports words that can't be read.
+pub fn run<G, P, M, O, E, L, R>(
     given: &G,
     opener: &P,
+    maker: &mut M,
     rt: &R,
     out: &mut O,
     err: &mut E,
@@ -140,14 +144,15 @@ pub fn run<G, P, O, E, L, R>(
 ) -> Ended
 where
     G: Env + AllocGlobal,
-    P: Opener + Maker,
+    P: Opener,
+    M: Maker,
     O: Output,
     E: Output,
     L: Output + Send,
     R: Threads + Wait + Clock + Sync,
-    ensures { EndsGiven O.written O.failures E.written E.failures (fate_of P.In.left P.In.failures (P.may_give opener.now)) (P.told opener.now) (P.named opener.now) out.old out.new err.old err.new (status_in result) }
+    ensures { EndsGiven O.written O.failures E.written E.failures (fate_of P.In.left P.In.failures (P.may_give opener.now)) (P.told opener.now) (P.named opener.now) (made_by M.empty M.text maker.old maker.new) out.old out.new err.old err.new (status_in result) }
 {
-    let status = match status_on(given, opener, rt, out, err, screen) {
+    let status = match status_on(given, opener, maker, rt, out, err, screen) {
         Ok(status) => status,
         Err(fault) => {
             write_error(fault.text(), err);

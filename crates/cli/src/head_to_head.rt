@@ -4,7 +4,7 @@ ghost use Rattle.std.specs.Prelude.{◌≡◌, ◌≢◌, ◌++◌};
 ghost use Rattle.mpicall.specs.Devices.{bytes_written};
 ghost use Rattle.cli.specs.HeadToHead.{report};
 
-use crate::memory_files::{MemoryFile, MemoryFiles};
+use crate::memory_files::{MemoryFile, MemoryFiles, MemoryMaker};
 use crate::program::program;
 use crate::shown::Screen;
 use crate::status::Status;
@@ -46,5 +46,6 @@ pub fn two_that_send_first<R: Threads + Wait + Clock + Sync>(
         out: MemoryOutput::new(alloc),
         is_terminal: false,
     };
-    program(alloc, &words, &shelf, rt, out, err, &mut screen)
+    let mut maker = MemoryMaker::new();
+    program(alloc, &words, &shelf, &mut maker, rt, out, err, &mut screen)
 }

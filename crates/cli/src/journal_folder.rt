@@ -1,13 +1,14 @@
-//! The journals of a run in a folder, and the files of their recording.
+//! The journals of a run in a folder, and the folder of their recording.
 
-ghost use Rattle.std.specs.Prelude.{◌≡◌, string_bytes, None, IfErr, IfOk};
-ghost use Rattle.judging.specs.Closing.{IsFaultOfClose};
+ghost use Rattle.std.specs.Prelude.{◌≡◌, string_bytes, IfErr, IfOk, OnOk};
+ghost use Rattle.closing.specs.Recordings.{choice_in};
+ghost use Rattle.judging.specs.Closing.{IsFaultOfClose, IsWritten};
 ghost use Rattle.cli.specs.JournalFolders.{journal_path, known_in};
 
 use crate::measured::Measured;
 use crate::opener::{Maker, Opener};
 use closing::choice::Choice;
-use judging::close::{CloseFault, FileName, Folder, close};
+use judging::close::{CloseFault, close};
 use judging::read::Journals;
 use progress::gauge::Gauge;
 use std::alloc::{AllocError, Global};
@@ -60,14 +61,39 @@ impl<P: Opener> Journals for JournalFolder<'_, '_, P> {
     }
 }
 
-/// As `close`, of the journals in a folder. Each command reads files of one type, so that what reads their lines is
-/// compiled once, and inlined.
-pub(crate) fn close_folder<P: Opener, F: Folder>(
-    journals: &JournalFolder<'_, '_, P>,
+/// As `close`, into the folder with a path.
+#[tactic(auto, using(crate::proofs::FolderLemmas::files_moved))]
+fn close_into<J: Journals, M: Maker>(
+    alloc: Global,
+    journals: &J,
     choice: Choice,
-    made: &mut F,
+    maker: &mut M,
+    path: &str,
     wait: &impl Wait,
 ) -> Result<(), CloseFault>
+    ensures written { OnOk result (IsWritten (J.known journals.now) (choice_in choice) (M.empty maker.old) (M.text maker.new path.now)) }
+    ensures fault { IfErr result (IsFaultOfClose (J.known journals.now)) }
+{
+    let mut made = maker.begin(alloc, path)?;
+    match close(alloc, journals, choice, &mut made, wait) {
+        Ok(()) => {}
+        Err(fault) => return Err(fault),
+    }
+    maker.keep(alloc, path, made)?;
+    Ok(())
+}
+
+/// The same of the journals in a folder. Each command reads files of one type, so that what reads their lines is
+/// compiled once, and inlined.
+pub(crate) fn close_folder<P: Opener, M: Maker>(
+    journals: &JournalFolder<'_, '_, P>,
+    choice: Choice,
+    maker: &mut M,
+    path: &str,
+    wait: &impl Wait,
+) -> Result<(), CloseFault>
+    ensures written { let known = known_in (P.told journals.now.opener.now) (P.named journals.now.opener.now) journals.now.path.now in
+        OnOk result (IsWritten known (choice_in choice) (M.empty maker.old) (M.text maker.new path.now)) }
     ensures fault { IfErr result (IsFaultOfClose (known_in (P.told journals.now.opener.now) (P.named journals.now.opener.now) journals.now.path.now)) }
 {
     let gauge = Gauge::new();
@@ -80,52 +106,5 @@ pub(crate) fn close_folder<P: Opener, F: Folder>(
         opener: &opener,
         path: journals.path,
     };
-    close(journals.alloc, &measured, choice, made, wait)
-}
-
-/// The folder of a recording: `head`, and of each rank `r` with its number.
-#[derive(Drop)]
-pub(crate) struct RecordingFolder<'p, 'a, P> {
-    alloc: Global,
-    maker: &'p P,
-    pub path: &'a str,
-}
-
-impl<'p, 'a, P> RecordingFolder<'p, 'a, P> {
-    pub(crate) fn new(alloc: Global, maker: &'p P, path: &'a str) -> RecordingFolder<'p, 'a, P>
-        ensures { result.path ≡ path.entry }
-    {
-        RecordingFolder { alloc, maker, path }
-    }
-}
-
-impl<P> RecordingFolder<'_, '_, P> {
-    fn path_of(&self, name: FileName) -> Result<String, AllocError> {
-        let folder = self.path;
-        let path = match name {
-            FileName::Head => format!(in self.alloc; "{folder}/head")?,
-            FileName::Trace(rank) => format!(in self.alloc; "{folder}/r{rank}")?,
-        };
-        Ok(path)
-    }
-}
-
-/// What files that are made hold isn't told.
-impl<P: Maker> Folder for RecordingFolder<'_, '_, P> {
-    type Out = P::Out;
-
-    ghost empty = { λ _. None };
-
-    ghost text = { λ _ _. None };
-
-    fn make(&mut self) -> bool {
-        self.maker.make_folder(self.path)
-    }
-
-    fn create(&mut self, name: FileName) -> Result<Option<P::Out>, AllocError> {
-        let path = self.path_of(name)?;
-        Ok(self.maker.create_output(path.as_str()))
-    }
-
-    fn take_back(&mut self, _name: FileName, _out: P::Out) {}
+    close_into(journals.alloc, &measured, choice, maker, path, wait)
 }

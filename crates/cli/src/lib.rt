@@ -4,9 +4,9 @@
 //! - `argv::run` runs it on the words of the process, in which a folder is replaced by its files, and gives what
 //!   ends the process with the status.
 //! - `program::program` runs it on words that are texts, and gives the status.
-//! - `opener::Opener` is what opens the files that the words name; `opener::Disk` opens those of the machine, and
-//!   `memory_files::MemoryFiles` those in memory, whose texts are known.
-//! - `in_memory::program_in_memory` runs it over such files, and says whole how a check ends.
+//! - `opener::Opener` is what opens the files that the words name, and `opener::Maker` what makes the folder of a
+//!   recording; `opener::Disk` does both on the machine, and `memory_files` has both in memory, where texts are known.
+//! - `in_memory::program_in_memory` runs it over such files, and says whole how each command ends.
 //! - `head_to_head::two_that_send_first` is one such run.
 //!
 //! What is on both outputs at the end, by the words and by the texts of the files, is the contract of

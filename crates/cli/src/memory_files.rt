@@ -1,12 +1,14 @@
-//! Files in memory, whose texts are known.
+//! Files in memory, whose texts are known, and folders that are made there.
 
-ghost use Rattle.std.specs.Prelude.{◌≡◌, Some, is_some, option_map};
+ghost use Rattle.std.specs.Prelude.{◌≡◌, [], Some, None, is_some, option_map};
 ghost use Rattle.std.specs.Option.{option_copied};
 ghost use Rattle.mpicall.specs.Devices.{bytes_left};
-ghost use Rattle.cli.specs.MemoryFiles.{text_on};
+ghost use Rattle.cli.specs.MemoryFiles.{text_at, text_in, text_on};
 
 use crate::opener::{Maker, Opener};
+use judging::close::{FileName, Folder};
 use mpicall::memory::{MemoryInput, MemoryOutput};
+use std::alloc::{AllocError, Global};
 
 /// A file in memory.
 #[derive(Clone, Copy)]
@@ -60,15 +62,82 @@ impl<'a> Opener for MemoryFiles<'a> {
     }
 }
 
-/// No files are made in memory.
-impl Maker for MemoryFiles<'_> {
+/// A file of a folder that is made in memory.
+#[derive(Drop)]
+pub struct MadeFile {
+    pub name: FileName,
+    pub output: MemoryOutput,
+}
+
+/// A folder that is made in memory. Of files with one name the first is found, which was made last.
+#[derive(Drop)]
+pub struct MadeFolder {
+    alloc: Global,
+    pub files: Vec<MadeFile>,
+}
+
+impl Folder for MadeFolder {
     type Out = MemoryOutput;
 
-    fn make_folder(&self, _path: &str) -> bool {
-        false
+    ghost empty = { λ _. Some [] };
+
+    ghost text = { λ folder name. text_in folder.files.items name };
+
+    fn make(&mut self) -> bool {
+        true
     }
 
-    fn create_output(&self, _path: &str) -> Option<MemoryOutput> {
-        None
+    fn create(&mut self, _name: FileName) -> Result<Option<MemoryOutput>, AllocError> {
+        Ok(Some(MemoryOutput::new(self.alloc)))
+    }
+
+    #[tactic(auto, using(crate::proofs::MadeLemmas::added_own, crate::proofs::MadeLemmas::added_other))]
+    fn take_back(&mut self, name: FileName, out: MemoryOutput) -> Result<(), AllocError> {
+        self.files.insert(0, MadeFile { name, output: out })?;
+        Ok(())
+    }
+}
+
+/// A folder that was made under a path.
+#[derive(Drop)]
+pub struct KeptFolder {
+    pub path: String,
+    pub folder: MadeFolder,
+}
+
+/// What makes folders in memory, and keeps the last one.
+#[derive(Drop)]
+pub struct MemoryMaker {
+    pub kept: Option<KeptFolder>,
+}
+
+impl MemoryMaker {
+    /// It has no folder.
+    pub fn new() -> MemoryMaker
+        ensures { result.kept ≡ None }
+    {
+        MemoryMaker { kept: None }
+    }
+}
+
+impl Maker for MemoryMaker {
+    type Made = MadeFolder;
+
+    ghost empty = { λ _. Some [] };
+
+    ghost text = { λ maker path name. text_at maker.kept path name };
+
+    fn begin(&self, alloc: Global, _path: &str) -> Result<MadeFolder, AllocError> {
+        Ok(MadeFolder {
+            alloc,
+            files: Vec::new(alloc),
+        })
+    }
+
+    #[tactic(auto, using(crate::proofs::MadeLemmas::kept_text))]
+    fn keep(&mut self, alloc: Global, path: &str, made: MadeFolder) -> Result<(), AllocError> {
+        let path = String::from_str(alloc, path)?;
+        self.kept = Some(KeptFolder { path, folder: made });
+        Ok(())
     }
 }

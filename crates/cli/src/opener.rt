@@ -1,10 +1,13 @@
-//! Opening the files that the command line names.
+//! Opening the files that the command line names, and making those of a recording.
 
-ghost use Rattle.std.specs.Prelude.{◌≡◌, ℕ, Bool, true, false, ⊤, Option, None, List, IfNone, IfSome};
+ghost use Rattle.std.specs.Prelude.{◌≡◌, ℕ, Bool, true, false, ⊤, Option, None, List, IfNone, IfOk, IfSome, OnOk};
 ghost use Rattle.mpicall.specs.Devices.{counted_failures};
+ghost use Rattle.judging.specs.declared.close.FileName.{FileName as Name};
 
+use judging::close::{FileName, Folder};
 use mpicall::counted::Counted;
-use mpicall::device::{DeviceFault, Input, Output};
+use mpicall::device::{DeviceFault, Input};
+use std::alloc::{AllocError, Global};
 use std::fs;
 use std::fs::OpenOptions;
 use std::io::Read;
@@ -60,15 +63,31 @@ pub trait Opener {
         ensures named { IfSome (named self.now path.now) (λ is. result ≡ is) };
 }
 
-/// What makes folders, and files in them.
+/// Where the folders of recordings are made: `empty` is what a file of such a folder says of its text when it was made, that
+/// it has none or nothing, and `text` what the file with a name says in the folder with a path, once that was kept.
 pub trait Maker {
-    type Out: Output + Drop;
+    type Made: Folder + Drop;
 
-    /// Makes a folder, where nothing stands under its path; says whether that was done.
-    fn make_folder(&self, path: &str) -> bool;
+    ghost empty: { Self → Option (List ℕ) };
 
-    /// A file that is made, where nothing stands under its path; None where it can't be made.
-    fn create_output(&self, path: &str) -> Option<Self::Out>;
+    ghost text: { Self → List ℕ → Name → Option (List ℕ) };
+
+    /// The folder with a path, which isn't made yet.
+    fn begin(&self, alloc: Global, path: &str) -> Result<Self::Made, AllocError>
+        ensures { IfOk result (λ made. Self.Made.empty made ≡ empty self.now) };
+
+    /// Keeps a folder that was made.
+    fn keep(&mut self, alloc: Global, path: &str, made: Self::Made) -> Result<(), AllocError>
+        ensures { OnOk result ((name : Name) → text self.new path.now name ≡ Self.Made.text made name) };
+}
+
+/// The path of a file in the folder of a recording: `head`, or of each rank `r` with its number.
+pub fn path_in(alloc: Global, folder: &str, name: FileName) -> Result<String, AllocError> {
+    let path = match name {
+        FileName::Head => format!(in alloc; "{folder}/head")?,
+        FileName::Trace(rank) => format!(in alloc; "{folder}/r{rank}")?,
+    };
+    Ok(path)
 }
 
 /// A file of the machine, of which it isn't known what it holds.
@@ -141,19 +160,61 @@ where
     }
 }
 
-impl<R: Files> Maker for Disk<'_, R> {
+/// A folder of the machine that is made, where nothing stands under its path. What its files hold isn't known.
+#[derive(Drop)]
+pub struct DiskFolder<'a, R> {
+    files: &'a R,
+    alloc: Global,
+    path: String,
+}
+
+impl<R: Files> Folder for DiskFolder<'_, R> {
     type Out = Counted<R::File>;
 
-    fn make_folder(&self, path: &str) -> bool {
-        fs::create_dir(self.0, path).is_ok()
+    ghost empty = { λ _. None };
+
+    ghost text = { λ _ _. None };
+
+    fn make(&mut self) -> bool {
+        fs::create_dir(self.files, self.path.as_str()).is_ok()
     }
 
-    fn create_output(&self, path: &str) -> Option<Counted<R::File>> {
+    fn create(&mut self, name: FileName) -> Result<Option<Counted<R::File>>, AllocError> {
+        let path = path_in(self.alloc, self.path.as_str(), name)?;
         let mut options = OpenOptions::new();
         options.write(true).create_new(true);
-        match options.open(self.0, path) {
-            Ok(file) => Some(Counted::new(file)),
-            Err(_) => None,
+        match options.open(self.files, path.as_str()) {
+            Ok(file) => Ok(Some(Counted::new(file))),
+            Err(_) => Ok(None),
         }
+    }
+
+    fn take_back(&mut self, _name: FileName, _out: Counted<R::File>) -> Result<(), AllocError> {
+        Ok(())
+    }
+}
+
+impl<'a, R: Files> Maker for Disk<'a, R> {
+    type Made = DiskFolder<'a, R>;
+
+    ghost empty = { λ _. None };
+
+    ghost text = { λ _ _ _. None };
+
+    fn begin(&self, alloc: Global, path: &str) -> Result<DiskFolder<'a, R>, AllocError> {
+        Ok(DiskFolder {
+            files: self.0,
+            alloc,
+            path: String::from_str(alloc, path)?,
+        })
+    }
+
+    fn keep(
+        &mut self,
+        _alloc: Global,
+        _path: &str,
+        _made: DiskFolder<'a, R>,
+    ) -> Result<(), AllocError> {
+        Ok(())
     }
 }

@@ -1,8 +1,9 @@
 //! The whole program, over any files and outputs.
 
 ghost use Rattle.std.specs.Prelude.{◌≡◌, map};
+ghost use Rattle.closing.specs.Recordings.{choice_in};
 ghost use Rattle.cli.specs.inner.Answer.{Complains, IsAnswered, Refuses, Shows, TellsFaultLine};
-ghost use Rattle.cli.specs.ExitContract.{Ends, EndsInCount, EndsInFiles, EndsInJudged, EndsInReport, IsDone, IsFaultOf};
+ghost use Rattle.cli.specs.ExitContract.{Ends, EndsInCount, EndsInFiles, EndsInJudged, EndsInReport, IsDone, IsFaultOf, made_by};
 ghost use Rattle.cli.specs.FaultTexts.{line_of_fault};
 ghost use Rattle.cli.specs.Faults.{status_of_fault};
 ghost use Rattle.cli.specs.JournalFolders.{known_in};
@@ -16,7 +17,7 @@ ghost use Rattle.cli.specs.Texts.{IsFaultOfCheck};
 
 use crate::command_line::{CommandLine, parse};
 use crate::fault::Fault;
-use crate::journal_folder::{JournalFolder, RecordingFolder, close_folder};
+use crate::journal_folder::{JournalFolder, close_folder};
 use crate::lint::lint_file;
 use crate::opener::{Maker, Opener};
 use crate::options::Options;
@@ -175,18 +176,18 @@ fn fault_of_close<'a>(folder: &'a str, path: &'a str, fault: CloseFault) -> Faul
 }
 
 /// Writes the recording of the journals in a folder into another one.
-fn answer_close<'a, P: Opener + Maker, O: Output>(
+fn answer_close<'a, P: Opener, M: Maker, O: Output>(
     journals: &JournalFolder<'_, 'a, P>,
-    made: &mut RecordingFolder<'_, 'a, P>,
+    maker: &mut M,
+    path: &'a str,
     choice: Choice,
     wait: &impl Wait,
     out: &mut O,
 ) -> Result<Status, Complaint<'a>>
     ensures { let known = known_in (P.told journals.now.opener.now) (P.named journals.now.opener.now) journals.now.path.now in
-        IsAnswered O.written O.failures EndsInFiles (IsFaultOfClose known journals.now.path.now made.old.path.now) out.old out.new result }
+        IsAnswered O.written O.failures (EndsInFiles known (choice_in choice) (M.empty maker.old) (M.text maker.new path.now)) (IsFaultOfClose known journals.now.path.now path.now) out.old out.new result }
 {
-    let path = made.path;
-    match close_folder(journals, choice, made, wait) {
+    match close_folder(journals, choice, maker, path, wait) {
         Ok(()) => Ok(Status::Free),
         Err(fault) => {
             let fault = fault_of_close(journals.path, path, fault);
@@ -196,20 +197,22 @@ fn answer_close<'a, P: Opener + Maker, O: Output>(
 }
 
 /// Does what the words ask for, and gives the exit status where that goes with standard output.
-fn answer<'a, P, O, L, R>(
+fn answer<'a, P, M, O, L, R>(
     alloc: Global,
     words: CommandLine<'a>,
     opener: &P,
+    maker: &mut M,
     rt: &R,
     out: &mut O,
     screen: &mut Screen<L>,
 ) -> Result<Status, Complaint<'a>>
 where
-    P: Opener + Maker,
+    P: Opener,
+    M: Maker,
     O: Output,
     L: Output + Send,
     R: Threads + Wait + Clock + Sync,
-    ensures { IsAnswered O.written O.failures (IsDone (P.told opener.now) (P.named opener.now) words.entry) (IsFaultOf (fate_of P.In.left P.In.failures (P.may_give opener.now)) (P.told opener.now) (P.named opener.now) words.entry) out.old out.new result }
+    ensures { IsAnswered O.written O.failures (IsDone (P.told opener.now) (P.named opener.now) (made_by M.empty M.text maker.old maker.new) words.entry) (IsFaultOf (fate_of P.In.left P.In.failures (P.may_give opener.now)) (P.told opener.now) (P.named opener.now) words.entry) out.old out.new result }
 {
     match words {
         CommandLine::Check {
@@ -238,8 +241,7 @@ where
             choice,
         } => {
             let journals = JournalFolder::new(alloc, opener, folder);
-            let mut made = RecordingFolder::new(alloc, opener, path);
-            answer_close(&journals, &mut made, choice, rt, out)
+            answer_close(&journals, maker, path, choice, rt, out)
         }
         CommandLine::Said {
             text,
@@ -298,26 +300,28 @@ fn complain<E: Output>(alloc: Global, complaint: Complaint<'_>, err: &mut E) -> 
 }
 
 /// Does what the words after the program's name ask for, over the opener's files, and gives the exit
-/// status. A trace may have no end, so it may wait. How far it is is shown on the screen alone, and nothing else
-/// depends on that.
-pub fn program<P, O, E, L, R>(
+/// status. The maker makes the folder of a recording. A trace may have no end, so it may wait. How far it is is shown
+/// on the screen alone, and nothing else depends on that.
+pub fn program<P, M, O, E, L, R>(
     alloc: Global,
     words: &[&str],
     opener: &P,
+    maker: &mut M,
     rt: &R,
     out: &mut O,
     err: &mut E,
     screen: &mut Screen<L>,
 ) -> Status
 where
-    P: Opener + Maker,
+    P: Opener,
+    M: Maker,
     O: Output,
     E: Output,
     L: Output + Send,
     R: Threads + Wait + Clock + Sync,
-    ensures { Ends O.written O.failures E.written E.failures (fate_of P.In.left P.In.failures (P.may_give opener.now)) (P.told opener.now) (P.named opener.now) out.old out.new err.old err.new (map (λ word. word.now) words.now) result }
+    ensures { Ends O.written O.failures E.written E.failures (fate_of P.In.left P.In.failures (P.may_give opener.now)) (P.told opener.now) (P.named opener.now) (made_by M.empty M.text maker.old maker.new) out.old out.new err.old err.new (map (λ word. word.now) words.now) result }
 {
-    match answer(alloc, parse(alloc, words), opener, rt, out, screen) {
+    match answer(alloc, parse(alloc, words), opener, maker, rt, out, screen) {
         Ok(status) => status,
         Err(complaint) => complain(alloc, complaint, err),
     }

@@ -3,7 +3,7 @@
 use crate::arguments::Arguments;
 use crate::named::fault_of;
 use crate::row::{Asked, Row, Wanted};
-use crate::row_files::{Made, Meeting, RowFiles};
+use crate::row_files::{Made, Meeting, RowFiles, RowMaker};
 use cli::argv::{WordsFault, run};
 use cli::capacity::Capacity;
 use cli::command_line::{CommandLine, parse};
@@ -117,14 +117,22 @@ fn answer_of_program<R: AllocGlobal + Eprint + Threads + Wait + Clock + Sync>(
     let shelf = RowFiles {
         row,
         meeting: &meeting,
-        made: &made,
         clock: rt,
     };
+    let mut maker = RowMaker { row, made: &made };
     let mut screen = Screen {
         out: FailsAt::new(MemoryOutput::new(rt.alloc()), devices.failing_screen),
         is_terminal: devices.is_terminal,
     };
-    let ended = run(&given, &shelf, rt, &mut out, &mut err, &mut screen);
+    let ended = run(
+        &given,
+        &shelf,
+        &mut maker,
+        rt,
+        &mut out,
+        &mut err,
+        &mut screen,
+    );
     Ok(Answer {
         code: ended.report(rt),
         out: out.device().bytes().to_vec(rt.alloc())?,

@@ -3,9 +3,11 @@
 ghost use Rattle.std.specs.Prelude.{◌≡◌, None};
 
 use crate::row::{Rest, Row, StoredFile};
-use cli::opener::{Maker, Opener};
+use cli::opener::{Maker, Opener, path_in};
+use judging::close::{FileName, Folder};
 use mpicall::counted::Counted;
 use mpicall::fails_at::FailsAt;
+use std::alloc::{AllocError, Global};
 use std::sync::atomic::{AtomicBool, AtomicU64, Ordering};
 use std::time::{Clock, Duration};
 use std::{io, thread};
@@ -178,12 +180,11 @@ impl<'a> io::Write for MadeFile<'a> {
     }
 }
 
-/// The files of a row, the meeting of two of them, and what is made.
+/// The files of a row, and the meeting of two of them.
 #[derive(Drop)]
 pub struct RowFiles<'a, R> {
     pub row: &'a Row,
     pub meeting: &'a Meeting,
-    pub made: &'a Made,
     pub clock: &'a R,
 }
 
@@ -287,24 +288,78 @@ impl<'a, R: Clock + Sync> Opener for RowFiles<'a, R> {
     }
 }
 
-/// A folder is made where a row wants files made, and those alone can be.
-impl<'a, R> Maker for RowFiles<'a, R> {
+/// The folder of a recording. It is made where a row wants files made, and those alone can be.
+#[derive(Drop)]
+pub struct RowFolder<'a> {
+    row: &'a Row,
+    made: &'a Made,
+    alloc: Global,
+    path: String,
+}
+
+impl<'a> Folder for RowFolder<'a> {
     type Out = Counted<MadeFile<'a>>;
 
-    fn make_folder(&self, _path: &str) -> bool {
+    ghost empty = { λ _. None };
+
+    ghost text = { λ _ _. None };
+
+    fn make(&mut self) -> bool {
         !self.row.wanted.made.is_empty()
     }
 
-    fn create_output(&self, path: &str) -> Option<Counted<MadeFile<'a>>> {
+    fn create(&mut self, name: FileName) -> Result<Option<Counted<MadeFile<'a>>>, AllocError> {
+        let path = path_in(self.alloc, self.path.as_str(), name)?;
         let (row, made) = (self.row, self.made);
         for file in &row.wanted.made {
-            if file.path.as_str() == path {
+            if file.path == path {
                 add_to(&made.files, 1);
                 let left = file.text.as_bytes();
-                return Some(Counted::new(MadeFile { left, made }));
+                return Ok(Some(Counted::new(MadeFile { left, made })));
             }
         }
         made.has_other.store(true, Ordering::SeqCst);
-        None
+        Ok(None)
+    }
+
+    fn take_back(
+        &mut self,
+        _name: FileName,
+        _out: Counted<MadeFile<'a>>,
+    ) -> Result<(), AllocError> {
+        Ok(())
+    }
+}
+
+/// What makes the folder of a row.
+#[derive(Drop)]
+pub struct RowMaker<'a> {
+    pub row: &'a Row,
+    pub made: &'a Made,
+}
+
+impl<'a> Maker for RowMaker<'a> {
+    type Made = RowFolder<'a>;
+
+    ghost empty = { λ _. None };
+
+    ghost text = { λ _ _ _. None };
+
+    fn begin(&self, alloc: Global, path: &str) -> Result<RowFolder<'a>, AllocError> {
+        Ok(RowFolder {
+            row: self.row,
+            made: self.made,
+            alloc,
+            path: String::from_str(alloc, path)?,
+        })
+    }
+
+    fn keep(
+        &mut self,
+        _alloc: Global,
+        _path: &str,
+        _made: RowFolder<'a>,
+    ) -> Result<(), AllocError> {
+        Ok(())
     }
 }

@@ -53,11 +53,11 @@ pub trait Folder {
         ensures kept { (other : Name) → text self.new other ≡ text self.old other }
         ensures made { IfOk result (λ made. IfSome made (λ out. IfSome (empty self.old) (λ bytes. Self.Out.written out ≡ Some bytes))) };
 
-    /// Takes a file back that was written.
-    fn take_back(&mut self, name: FileName, out: Self::Out)
+    /// Takes a file back that was written. A folder that keeps files wants memory for them.
+    fn take_back(&mut self, name: FileName, out: Self::Out) -> Result<(), AllocError>
         ensures empty { empty self.new ≡ empty self.old }
         ensures kept { (other : Name) → (other ≡ name → ⊥) → text self.new other ≡ text self.old other }
-        ensures taken { IfSome (empty self.old) (λ bytes. text self.new name ≡ Self.Out.written out) };
+        ensures taken { OnOk result (IfSome (empty self.old) (λ bytes. text self.new name ≡ Self.Out.written out)) };
 }
 
 /// Why the files weren't written.
@@ -218,7 +218,7 @@ fn write_file<F: Folder>(
         return Err(CloseFault::Write);
     };
     write_trace(recording, rank, &mut out)?;
-    folder.take_back(name, out);
+    folder.take_back(name, out)?;
     Ok(())
 }
 
@@ -232,7 +232,7 @@ fn write_text<F: Folder>(name: FileName, text: &[u8], folder: &mut F) -> Result<
         return Err(CloseFault::Write);
     };
     write_all(&mut out, text)?;
-    folder.take_back(name, out);
+    folder.take_back(name, out)?;
     Ok(())
 }
 

@@ -14,5 +14,6 @@ fn main(rt: HostRuntime) -> Ended {
         is_terminal: rt.stderr().is_terminal(),
         out: Counted::new(rt.stderr()),
     };
-    run(&rt, &Disk(&rt), &rt, &mut out, &mut err, &mut screen)
+    let (disk, mut maker) = (Disk(&rt), Disk(&rt));
+    run(&rt, &disk, &mut maker, &rt, &mut out, &mut err, &mut screen)
 }
