@@ -221,6 +221,14 @@ class Recorders(unittest.TestCase):
         self.assertEqual(given("mpirun", "-genvlist", "HOME", "a")[2], "HOME,LD_PRELOAD,MPIWAIT_JOURNAL")
         self.assertEqual(given("mpirun", "LD_PRELOAD", "a"), ["mpirun", "LD_PRELOAD", "a"])
 
+    def test_what_a_sanitizer_wants(self):
+        more = "verify_asan_link_order=0"
+        with mock.patch.dict(os.environ, {"ASAN_OPTIONS": "a=1"}), mock.patch.object(recorder, "make_recorder", str):
+            command, _ = recorder.with_recorder(["mpirun", "-genv", "ASAN_OPTIONS", "b=2", "c"], "mpich", "/j")
+        self.assertIn(f"ASAN_OPTIONS=a=1:{more}", command)
+        self.assertEqual(command[-2:], [f"b=2:{more}", "c"])
+        self.assertEqual(recorder.after_others(["ASAN_OPTIONS=b=2"], "/r.so", []), [f"ASAN_OPTIONS=b=2:{more}"])
+
     def test_variables_for_open_mpi(self):
         environment = {"OMPI_MCA_mca_base_env_list": "A"}
         self.assertEqual(recorder.for_open_mpi(["mpirun", "a"], ["B", "C"], environment), ["mpirun", "a"])

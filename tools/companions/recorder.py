@@ -16,6 +16,8 @@ MACROS = {"mpich": "define MPICH_VERSION ", "openmpi": "define OPEN_MPI "}
 # What launchers say, and what programs load: where the files of the library are says nothing.
 SAYS = {"mpich": "HYDRA|MPICH", "openmpi": "Open MPI|OpenRTE|PRRTE"}
 LOADS = {"mpich": r"libmpich[.]so|libmpi[.]so[.]12\b", "openmpi": r"libmpi[.]so[.](?!12\b)"}
+# A program built with gcc's -fsanitize=address begins only if nothing is loaded before that, or with this.
+SANITIZER = {"ASAN_OPTIONS": "verify_asan_link_order=0"}
 
 
 def said_by(*words, **more):
@@ -85,11 +87,12 @@ def make_recorder(library):
 
 def after_others(command, recorder, names):
     """The command, with the recorder after what it sets LD_PRELOAD to itself: so another tool between the
-    program and MPI is called, and calls the recorder."""
-    words = []
+    program and MPI is called, and calls the recorder. Likewise with the options of a sanitizer."""
+    words, more = [], {"LD_PRELOAD": recorder, **SANITIZER}
     for before, last, word in zip(["", "", *command], ["", *command], command):
-        if re.match("LD_PRELOAD=.", word) or last == "LD_PRELOAD" and re.fullmatch("--?g?env", before):
-            word = f"{word}:{recorder}"
+        given = re.match(r"(\w+)=.", word)
+        name = last if re.fullmatch("--?g?env", before) else given and given[1]
+        word = f"{word}:{more[name]}" if name in more else word
         words.append(",".join([word, *names]) if last in ("-genvlist", "-envlist") else word)
     return words
 
@@ -108,8 +111,9 @@ def for_open_mpi(command, names, environment):
 def with_recorder(command, library, journals, frames=1, is_strict=False, window=0):
     """The command and the environment that have its ranks recorded."""
     recorder, environment = make_recorder(library), dict(os.environ)
-    own = {"LD_PRELOAD": ":".join(filter(None, [environment.get("LD_PRELOAD"), recorder])),
-           "MPIWAIT_JOURNAL": str(journals), "MPIWAIT_FRAMES": str(frames)}  # fmt: skip
+    added = {"LD_PRELOAD": recorder, **SANITIZER}.items()
+    own = {name: ":".join(filter(None, [environment.get(name), more])) for name, more in added}
+    own |= {"MPIWAIT_JOURNAL": str(journals), "MPIWAIT_FRAMES": str(frames)}
     own |= {"MPIWAIT_STRICT": "1"} if is_strict else {}
     own |= {"MPIWAIT_WINDOW": str(window)} if window else {}
     for name in ("MPIWAIT_STRICT", "MPIWAIT_WINDOW"):

@@ -210,6 +210,16 @@ try_launcher() {
     expect_hang "$name"
 }
 
+# Its runtime has to be loaded before all else, or be told otherwise.
+try_sanitizer() {
+    local library=$1 name="$1: a program built with -fsanitize=address"
+    prepare "$library" head-to-head.c 2
+    compile "mpicc.$library" -fsanitize=address -o "$work/program" head-to-head.c 2>/dev/null ||
+        { echo "$name: passed over: it can't be built"; return; }
+    ASAN_OPTIONS=detect_leaks=0 run_with "${command[@]}"
+    expect_hang "$name"
+}
+
 # ---- Another tool ---------------------------------------------------------------------------------
 
 # Its own lines are there, and the run is recorded.
