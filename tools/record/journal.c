@@ -7,6 +7,7 @@
 #include <stdio.h>
 #include <string.h>
 #include <sys/mman.h>
+#include <sys/resource.h>
 #include <sys/stat.h>
 #include <unistd.h>
 
@@ -65,9 +66,15 @@ bool is_still_ours(int file, Identity *identity) {
     return now.st_dev == identity->device && now.st_ino == identity->place;
 }
 
+/* Whether a file may be so long. The system ends a process by SIGXFSZ that makes a longer one. */
+static bool may_have(unsigned long size) {
+    struct rlimit most;
+    return getrlimit(RLIMIT_FSIZE, &most) != 0 || most.rlim_cur == RLIM_INFINITY || size <= most.rlim_cur;
+}
+
 /* Room on the disk is reserved first: a write into mapped memory can't return an error. */
 char *map_text(int file, long start, unsigned long size) {
-    if (posix_fallocate(file, start, size) != 0)
+    if (!may_have(start + size) || posix_fallocate(file, start, size) != 0)
         return NULL;
     char *place = mmap(NULL, size, PROT_READ | PROT_WRITE, MAP_SHARED, file, start);
     return place == MAP_FAILED ? NULL : place;

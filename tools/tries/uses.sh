@@ -270,7 +270,13 @@ record_into() {
 }
 
 try_no_room() {
-    local library=$1 name="$1: a full disk"
+    local library=$1 name="$1: a limit on files"
+    prepare "$library" limited.c 1
+    run_with --window 0 "${command[@]}"
+    check_journals "$name"
+    expect_line "$name" 5 'stops recording: there is no room' 'the recording stops' \
+        "$(grep -q '^it came to its end' "$work/said" || echo 'the program was ended')"
+    name="$library: a full disk"
     prepare "$library" many-calls.c 1
     run_with true 2>/dev/null || :
     mkdir -p -- "$work/small"
