@@ -209,6 +209,7 @@ class Places(Folders):
     def test_python(self):
         self.assertEqual(self.found("", "/src/a.py:3"), "/src/a.py:3")
         self.assertEqual(self.found("", f"{os.getcwd()}/a.py:3"), "a.py:3")
+        self.assertEqual(self.found("", "/c++0x/a.py:3"), "/c++0x/a.py:3")
 
     def test_bytes(self):
         self.assertEqual(places.printable("a\udcff\u2028\t\u00e9\\"), "a\\xff\\u2028\\t\u00e9\\")

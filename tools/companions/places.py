@@ -8,6 +8,8 @@ from contextlib import suppress
 from functools import lru_cache
 from pathlib import Path
 
+# A place in a module; in Python code it ends with a line.
+IN_MODULE = re.compile(r"(.*)\+0x([0-9a-f]+)", re.DOTALL)
 # What calls `main', or a program of Fortran: a function and a path, of which nobody wants to know.
 BEGINNING = re.compile(r"(_*(libc_start_\w+|start)|generic_start_main) .*|main .*[.][fF]\d*", re.DOTALL)
 
@@ -35,9 +37,9 @@ class Places:
         """Looks up pairs of a rank and a site."""
         modules = {}
         for frame in {frame for rank, site in wanted for frame in self.raw(rank, site)} - set(self._found):
-            module, plus, offset = frame.rpartition("+0x")
-            if plus:  # the offset is that of the return, which may be in the line after that of the call
-                modules.setdefault(module, {})[int(offset, 16) - 1] = frame
+            found = IN_MODULE.fullmatch(frame)
+            if found:  # the offset is that of the return, which may be in the line after that of the call
+                modules.setdefault(found[1], {})[int(found[2], 16) - 1] = frame
             else:
                 path, _, line = frame.rpartition(":")
                 self._found[frame] = [Frame(path, int(line))]
