@@ -8,6 +8,8 @@ import os
 import signal
 import subprocess
 import sys
+import tempfile
+import threading
 import time
 import unittest
 from pathlib import Path
@@ -220,6 +222,29 @@ class Recorders(unittest.TestCase):
         self.assertEqual(given("mpirun", "-x", "LD_PRELOAD=/t.so", "a")[2], "LD_PRELOAD=/t.so:/r.so")
         self.assertEqual(given("mpirun", "-genvlist", "HOME", "a")[2], "HOME,LD_PRELOAD,MPIWAIT_JOURNAL")
         self.assertEqual(given("mpirun", "LD_PRELOAD", "a"), ["mpirun", "LD_PRELOAD", "a"])
+
+    def test_one_builds_at_a_time(self):
+        building, most = [], []
+
+        def build(*_, **__):
+            building.append(1)
+            most.append(len(building))
+            time.sleep(0.1)
+            building.pop()
+            return mock.Mock(returncode=0)
+
+        with (
+            tempfile.TemporaryDirectory() as folder,
+            mock.patch.object(recorder, "said_by", lambda *_, **__: recorder.MACROS["mpich"]),
+            mock.patch.object(recorder, "folder_of_recorder", lambda _: Path(folder) / "out"),
+            mock.patch("subprocess.run", build),
+        ):
+            threads = [threading.Thread(target=recorder.make_recorder, args=["mpich"]) for _ in range(4)]
+            for each in threads:
+                each.start()
+            for each in threads:
+                each.join()
+        self.assertEqual(most, [1] * 4)
 
     def test_what_a_sanitizer_wants(self):
         more = "verify_asan_link_order=0"

@@ -1,11 +1,12 @@
 """Finds the MPI library of a command, builds the recorder for it, and hands the recorder to the ranks."""
 
+import fcntl
 import hashlib
 import os
 import re
 import shutil
 import subprocess
-from contextlib import suppress
+from contextlib import contextmanager, suppress
 from pathlib import Path
 
 from .script import HERE, Status, Stopped
@@ -69,6 +70,21 @@ def folder_of_recorder(library):
     return Path(cache) / "mpiwait" / digest[:12] / library
 
 
+@contextmanager
+def alone_in(folder):
+    """Of several scripts one builds there, and the others wait for it. A file system may have no locks."""
+    held = None
+    with suppress(OSError):
+        folder.mkdir(parents=True, exist_ok=True)
+        held = os.open(folder, os.O_RDONLY | os.O_CLOEXEC)
+        fcntl.flock(held, fcntl.LOCK_EX)
+    try:
+        yield
+    finally:
+        if held is not None:
+            os.close(held)
+
+
 def make_recorder(library):
     """The path of the recorder. It is built if it isn't yet: by the compiler in use, if that is right."""
     asked = ("-E", "-dM", "-x", "c", "-")
@@ -78,7 +94,9 @@ def make_recorder(library):
         raise Stopped(f"there is no mpicc of {library} to build the recorder with", Status.WORDS)
     out = folder_of_recorder(library)
     command = ["make", "-s", "-C", SOURCES, f"MPICC={names[0]}", f"OUT={out}"]
-    if subprocess.run(command, stdout=2, stdin=subprocess.DEVNULL, check=False).returncode:
+    with alone_in(out):
+        made = subprocess.run(command, stdout=2, stdin=subprocess.DEVNULL, check=False)
+    if made.returncode:
         raise Stopped(f"the recorder for {library} can't be built in {out}", Status.WORDS)
     if re.search("[ :]", str(out)):
         raise Stopped(f"the path of the recorder may have no spaces and no colons: {out}", Status.WORDS)
