@@ -5,11 +5,10 @@ import fcntl
 import io
 import json
 import os
+import shutil
 import signal
 import subprocess
 import sys
-import tempfile
-import threading
 import time
 import unittest
 from pathlib import Path
@@ -215,7 +214,7 @@ class Recorders(unittest.TestCase):
 
     def test_other_tools_in_ld_preload(self):
         def given(*command):
-            return recorder.after_others(list(command), "/r.so", ["LD_PRELOAD", "MPIWAIT_JOURNAL"])
+            return recorder.after_others(list(command), {"LD_PRELOAD": "/r.so"}, ["LD_PRELOAD", "MPIWAIT_JOURNAL"])
 
         self.assertEqual(given("env", "LD_PRELOAD=/t.so", "a")[1], "LD_PRELOAD=/t.so:/r.so")
         self.assertEqual(given("mpirun", "-genv", "LD_PRELOAD", "/t.so", "a")[3], "/t.so:/r.so")
@@ -223,36 +222,13 @@ class Recorders(unittest.TestCase):
         self.assertEqual(given("mpirun", "-genvlist", "HOME", "a")[2], "HOME,LD_PRELOAD,MPIWAIT_JOURNAL")
         self.assertEqual(given("mpirun", "LD_PRELOAD", "a"), ["mpirun", "LD_PRELOAD", "a"])
 
-    def test_one_builds_at_a_time(self):
-        building, most = [], []
-
-        def build(*_, **__):
-            building.append(1)
-            most.append(len(building))
-            time.sleep(0.1)
-            building.pop()
-            return mock.Mock(returncode=0)
-
-        with (
-            tempfile.TemporaryDirectory() as folder,
-            mock.patch.object(recorder, "said_by", lambda *_, **__: recorder.MACROS["mpich"]),
-            mock.patch.object(recorder, "folder_of_recorder", lambda _: Path(folder) / "out"),
-            mock.patch("subprocess.run", build),
-        ):
-            threads = [threading.Thread(target=recorder.make_recorder, args=["mpich"]) for _ in range(4)]
-            for each in threads:
-                each.start()
-            for each in threads:
-                each.join()
-        self.assertEqual(most, [1] * 4)
-
     def test_what_a_sanitizer_wants(self):
         more = "verify_asan_link_order=0"
         with mock.patch.dict(os.environ, {"ASAN_OPTIONS": "a=1"}), mock.patch.object(recorder, "make_recorder", str):
             command, _ = recorder.with_recorder(["mpirun", "-genv", "ASAN_OPTIONS", "b=2", "c"], "mpich", "/j")
         self.assertIn(f"ASAN_OPTIONS=a=1:{more}", command)
         self.assertEqual(command[-2:], [f"b=2:{more}", "c"])
-        self.assertEqual(recorder.after_others(["ASAN_OPTIONS=b=2"], "/r.so", []), [f"ASAN_OPTIONS=b=2:{more}"])
+        self.assertEqual(recorder.after_others(["A=b=2"], {"A": more}, []), [f"A=b=2:{more}"])
 
     def test_variables_for_open_mpi(self):
         environment = {"OMPI_MCA_mca_base_env_list": "A"}
@@ -262,6 +238,32 @@ class Recorders(unittest.TestCase):
         self.assertEqual(
             recorder.for_open_mpi(command, ["B", "C"], {}), ["mpirun", "-x", "C", "-x", "B=1", "a"]
         )
+
+
+SLOW = """#!/bin/sh
+echo 'int MPI_Barrier_init(MPI_Comm comm, MPI_Info info, MPI_Request *request);'
+sleep 0.5
+echo 'int MPI_Win_fence(int assert, MPI_Win win);'
+"""
+
+
+class Built(Folders):
+    def test_what_is_built_is_put_in_place_as_a_whole(self):
+        """Another make that builds the same may read it."""
+        if not shutil.which("make"):
+            self.skipTest("there is no make")
+        self.write("compiler", SLOW)
+        (self.folder / "compiler").chmod(0o755)
+        words = ["make", "-s", "-C", TOOLS / "record", f"MPICC={self.folder}/compiler", f"OUT={self.folder}"]
+        made = subprocess.Popen([*words, f"{self.folder}/counted.h"])
+        sizes = set()
+        while made.poll() is None:
+            with contextlib.suppress(FileNotFoundError):
+                sizes.add((self.folder / "mpi.i").stat().st_size)
+            time.sleep(0.01)
+        self.assertEqual(made.returncode, 0)
+        self.assertLessEqual(sizes, {(self.folder / "mpi.i").stat().st_size})
+        self.assertIn("Win_fence", self.read("counted.h"))
 
 
 class Processes(unittest.TestCase):

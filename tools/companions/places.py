@@ -8,8 +8,7 @@ from contextlib import suppress
 from functools import lru_cache
 from pathlib import Path
 
-# A place in a module; in Python code it ends with a line.
-IN_MODULE = re.compile(r"(.*)\+0x([0-9a-f]+)", re.DOTALL)
+IN_MODULE = re.compile(r"(.*)\+0x([0-9a-f]+)", re.DOTALL)  # a place in Python code ends with a line
 # What calls `main', or a program of Fortran: a function and a path, of which nobody wants to know.
 BEGINNING = re.compile(r"(_*(libc_start_\w+|start)|generic_start_main) .*|main .*[.][fF]\d*", re.DOTALL)
 

@@ -1,12 +1,11 @@
 """Finds the MPI library of a command, builds the recorder for it, and hands the recorder to the ranks."""
 
-import fcntl
 import hashlib
 import os
 import re
 import shutil
 import subprocess
-from contextlib import contextmanager, suppress
+from contextlib import suppress
 from pathlib import Path
 
 from .script import HERE, Status, Stopped
@@ -17,8 +16,7 @@ MACROS = {"mpich": "define MPICH_VERSION ", "openmpi": "define OPEN_MPI "}
 # What launchers say, and what programs load: where the files of the library are says nothing.
 SAYS = {"mpich": "HYDRA|MPICH", "openmpi": "Open MPI|OpenRTE|PRRTE"}
 LOADS = {"mpich": r"libmpich[.]so|libmpi[.]so[.]12\b", "openmpi": r"libmpi[.]so[.](?!12\b)"}
-# A program built with gcc's -fsanitize=address begins only if nothing is loaded before that, or with this.
-SANITIZER = {"ASAN_OPTIONS": "verify_asan_link_order=0"}
+SANITIZER = {"ASAN_OPTIONS": "verify_asan_link_order=0"}  # else its runtime has to come before the recorder
 
 
 def said_by(*words, **more):
@@ -70,21 +68,6 @@ def folder_of_recorder(library):
     return Path(cache) / "mpiwait" / digest[:12] / library
 
 
-@contextmanager
-def alone_in(folder):
-    """Of several scripts one builds there, and the others wait for it. A file system may have no locks."""
-    held = None
-    with suppress(OSError):
-        folder.mkdir(parents=True, exist_ok=True)
-        held = os.open(folder, os.O_RDONLY | os.O_CLOEXEC)
-        fcntl.flock(held, fcntl.LOCK_EX)
-    try:
-        yield
-    finally:
-        if held is not None:
-            os.close(held)
-
-
 def make_recorder(library):
     """The path of the recorder. It is built if it isn't yet: by the compiler in use, if that is right."""
     asked = ("-E", "-dM", "-x", "c", "-")
@@ -94,19 +77,17 @@ def make_recorder(library):
         raise Stopped(f"there is no mpicc of {library} to build the recorder with", Status.WORDS)
     out = folder_of_recorder(library)
     command = ["make", "-s", "-C", SOURCES, f"MPICC={names[0]}", f"OUT={out}"]
-    with alone_in(out):
-        made = subprocess.run(command, stdout=2, stdin=subprocess.DEVNULL, check=False)
-    if made.returncode:
+    if subprocess.run(command, stdout=2, stdin=subprocess.DEVNULL, check=False).returncode:
         raise Stopped(f"the recorder for {library} can't be built in {out}", Status.WORDS)
     if re.search("[ :]", str(out)):
         raise Stopped(f"the path of the recorder may have no spaces and no colons: {out}", Status.WORDS)
     return str(out / "record.so")
 
 
-def after_others(command, recorder, names):
-    """The command, with the recorder after what it sets LD_PRELOAD to itself: so another tool between the
-    program and MPI is called, and calls the recorder. Likewise with the options of a sanitizer."""
-    words, more = [], {"LD_PRELOAD": recorder, **SANITIZER}
+def after_others(command, more, names):
+    """The command, with more after what it sets such variables to itself, as the recorder in LD_PRELOAD: so
+    another tool between the program and MPI is called, and calls the recorder."""
+    words = []
     for before, last, word in zip(["", "", *command], ["", *command], command):
         given = re.match(r"(\w+)=.", word)
         name = last if re.fullmatch("--?g?env", before) else given and given[1]
@@ -128,15 +109,14 @@ def for_open_mpi(command, names, environment):
 
 def with_recorder(command, library, journals, frames=1, is_strict=False, window=0):
     """The command and the environment that have its ranks recorded."""
-    recorder, environment = make_recorder(library), dict(os.environ)
-    added = {"LD_PRELOAD": recorder, **SANITIZER}.items()
-    own = {name: ":".join(filter(None, [environment.get(name), more])) for name, more in added}
+    more, environment = {"LD_PRELOAD": make_recorder(library), **SANITIZER}, dict(os.environ)
+    own = {name: ":".join(filter(None, [environment.get(name), one])) for name, one in more.items()}
     own |= {"MPIWAIT_JOURNAL": str(journals), "MPIWAIT_FRAMES": str(frames)}
     own |= {"MPIWAIT_STRICT": "1"} if is_strict else {}
     own |= {"MPIWAIT_WINDOW": str(window)} if window else {}
     for name in ("MPIWAIT_STRICT", "MPIWAIT_WINDOW"):
         environment.pop(name, None)
-    command = after_others(command, recorder, list(own))
+    command = after_others(command, more, list(own))
     if library == "openmpi":
         command = for_open_mpi(command, list(own), environment)
     # The launcher's own start isn't preloaded: `env' sets the variables after the words of this script.
