@@ -132,6 +132,7 @@ class Checker:
 
     def __init__(self, rank, ranks, ends_with_cut=False):
         self.rank, self.ranks, self.ends_with_cut = str(rank), ranks, ends_with_cut
+        self.moved_wrongly = set()  # lines that report a moved receive which can't be one; other faults come first
         self.groups = {
             "0": [str(each) for each in range(ranks)],
             "1": [self.rank],
@@ -142,8 +143,7 @@ class Checker:
         self.number = 1
 
     def take(self, line):
-        """Raises the code of the line's fault; or the fault of an earlier line that says of a request that it goes on
-        which now is known to be complete."""
+        """Raises the code of the line's fault. Reports of moved receives that can't be are kept in `moved_wrongly'."""
         self.number += 1
         word, fields = fields_of(line, self.ranks)
         need(self.word not in ENDS, "J5")
@@ -181,9 +181,7 @@ class Checker:
     def _complete(self, requests):
         for request in requests:
             request.is_completed = True
-        moved = [request.moved_at for request in requests if request.moved_at]
-        if moved:
-            raise Fault(min(moved), "J7")
+        self.moved_wrongly |= {request.moved_at for request in requests if request.moved_at}
 
     def _is_right(self, letter, field):
         known = self.requests.get(field)
@@ -210,7 +208,9 @@ class Checker:
             self._new_communicator(word, fields, known)
         for _, request in known:
             request.has_outcome |= word in OUTCOMES
-            request.moved_at = self.number if word == "=moved" else request.moved_at
+            if word == "=moved":
+                request.moved_at = self.number
+                self.moved_wrongly |= set() if self.ends_with_cut else {self.number}
             request.is_brought |= word == "=idup"
         if word in FOLLOW and word != "=idup":
             self.reports.add(word)
@@ -220,7 +220,7 @@ class Checker:
     def _can_have(self, word, fields):
         """Whether the last call can have this line."""
         if word not in FOLLOW:
-            return word != "=moved" or self.ends_with_cut
+            return True
         if word == "=comm" and self.word == "comm_split" and self.fields[1] == "undefined":
             return False
         once = self.reports & ({"=comm", "=none"} if word in ("=comm", "=none") else {word})
@@ -269,3 +269,5 @@ def check(lines, rank, ranks):
             checker.take(line)
         except ValueError as code:
             raise Fault(number, str(code)) from None
+    if checker.moved_wrongly:
+        raise Fault(min(checker.moved_wrongly), "J7")

@@ -523,7 +523,7 @@ class Recording:
         """`known' is another one of the same journals, if there is one."""
         self.journals = known.journals if known else journals_in(words.folder)
         self.communicators = known.communicators if known else Communicators(self.journals)
-        if self.communicators.are_cut and not known:
+        if self.communicators.are_cut and words.run is judge and not known:
             self.look_for_unclean()
         self.lists = [List(one, self.communicators, words) for one in self.journals]
         self._waits = {}  # by the limit

@@ -102,7 +102,8 @@ REFUSED = {
     ("cut 0", ""): "rank 0 line 2 J3 number of fields",
     ("irecv 1 0 1 0 / =moved 1 / finalize", "finalize"): "rank 0 line 3 J7 told line out of place",
     ("irecv 1 0 1 0 / =moved 1 / barrier 0 / foo", ""): "rank 0 line 5 J2 unknown word",
-    ("irecv 1 0 1 0 / =moved 1 / barrier 0 0", ""): "rank 0 line 3 J7 told line out of place",
+    ("irecv 1 0 1 0 / =moved 1 / barrier 0 0", ""): "rank 0 line 4 J3 number of fields",
+    ("irecv 1 0 1 0 / =moved 1 / finalize", ""): "rank 0 line 3 J7 told line out of place",
     ("isend 1 0 1 0 / =moved 1", ""): "rank 0 line 3 J7 told line out of place",
     ("ibarrier 1 0 / =moved 1", ""): "rank 0 line 3 J7 told line out of place",
     ("isendrecv 1 2 0 1 0 1 7 / =moved 1", ""): "rank 0 line 3 J7 told line out of place",
@@ -198,8 +199,9 @@ class Cuts(Folders):
             with self.subTest(ranks):
                 self.again()
                 ranks = [one if one.endswith(ENDS) else f"{one} / cut".removeprefix(" / ") for one in ranks]
-                self.assertEqual(self.closed(*ranks), f"refused {why}")
-                self.assertEqual(self.traces(self.folder / "J", "judge", "--calls", "went"), f"refused {why}")
+                self.closed(*ranks)
+                for calls in ("strict", "went"):
+                    self.assertEqual(self.traces(self.folder / "J", "judge", "--calls", calls), f"refused {why}")
 
     def test_a_cut_of_some_ranks_alone(self):
         self.assertEqual(self.closed("barrier 0 / cut", "barrier 0 / finalize"), ["barrier 0 / open", "barrier 0 / finalize"])

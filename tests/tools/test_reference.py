@@ -52,6 +52,17 @@ class Reference(Folders):
                 count += 1
         self.assertGreater(count, 100)
 
+    def test_cuts(self):
+        """A moved receive that can't be one is refused if nothing else is wrong, and `close' asks for no clean cut."""
+        journal = "journal 2 0 1 run o a library\nirecv 2 0 any 7\n=moved 2\n{}\n"
+        for last, said in (("finalize", "line 3 J7 told line out of place"), ("finalise", "line 4 J2 unknown word")):
+            self.write("journal0", journal.format(last))
+            answer = self.run_program("close", self.folder, self.folder / "out")
+            self.assertEqual(answer, (2, f"refused rank 0 {said}\n", ""))
+        self.write("journal0", "journal 2 0 1 run o a library\nsend 0 0 7\ncut\n")
+        self.assertEqual(self.run_program("close", self.folder, self.folder / "out"), (0, "", ""))
+        self.assertEqual(self.run_program("judge", self.folder), (2, "refused rank 0 line 2 J11 cut\n", ""))
+
     def test_why_a_list_ends(self):
         report = {"causes": [], "findings": [], "ranks": [], "verdict": "unfinished"}
         for calls, why in LEFT.items():
