@@ -263,6 +263,28 @@ stopped_there groups rank told may_answer items at (inr none) is =
     let e : Some (0, OfSource ThreadNotStarted) ≡ Some (at, OfSource GateStopped) = sym (fault_held groups rank [] (Torn ThreadNotStarted) items none) ∙ is in
     absurd (false≢true (ap gate_at e))
 
+-- no rank whose source was read has the fault of a thread that didn't start
+
+unstarted_at : Option PlacedFault → Bool
+unstarted_at (Some (place, OfSource ThreadNotStarted)) = true
+unstarted_at fault = false
+
+sealed_unstarted : (ends : Bool) (calls : List Call) (at : ℕ) → is_ended calls ≡ ends → ¬ (fault_of_end Sealed calls ≡ Some (at, OfSource ThreadNotStarted))
+unfolding unstarted_at
+sealed_unstarted true calls at is e = let h : None ≡ Some (at, OfSource ThreadNotStarted) = rw is at e in false≢true (ap unstarted_at h)
+sealed_unstarted false calls at is e = let h : Some (length calls, OfSource NoFinalize) ≡ Some (at, OfSource ThreadNotStarted) = rw is at e in false≢true (ap unstarted_at h)
+
+unstarted_as : (may_answer : ℕ → Bool → Type 0) (calls : List Call) (end : Ending) (at : ℕ) → StopsAs may_answer calls end → ¬ (fault_of_end end calls ≡ Some (at, OfSource ThreadNotStarted))
+unfolding unstarted_at
+unstarted_as may_answer calls Sealed at stops e = sealed_unstarted (is_ended calls) calls at refl e
+unstarted_as may_answer calls (Torn ThreadNotStarted) at stops e = stops
+unstarted_as may_answer calls end at stops e = false≢true (ap unstarted_at e)
+
+pub read_is_started : (groups : Groups) (rank : ℕ) (told : Option Trace) (may_answer : ℕ → Bool → Type 0) (items : List Item) (at : ℕ) → IsFed told may_answer items → ¬ (fault_of_rank groups rank (trace_of_items items) ≡ Some (at, OfSource ThreadNotStarted))
+read_is_started groups rank told may_answer items at own is =
+    unstarted_as may_answer own.calls own.end at own.stopped
+    (source_fault groups rank [] own.calls own.end at ThreadNotStarted (sym (fault_held groups rank own.calls own.end items own.are) ∙ is))
+
 -- what is read of a trace stops within it
 
 whole_within : (trace : Trace) (calls : List Call) → trace.records ≡ calls → length calls ≤ length trace.records

@@ -1,6 +1,6 @@
 -- What is answered of records that were read by turns: the answer over the traces that their items make.
 use Rattle.moves.specs.declared.reading.Reading.{Reading}
-use Rattle.std.proofs.Common.{◌≡◌, ℕ, Bool, zero, suc, ◌+◌, ◌<◌, true, false, Option, Some, None, Result, Ok, Err, IfOk, IfErr, List, [], ◌∷◌, length, map, slice_get, refl, sym, ap, subst, ◌∙◌, inl, arith}
+use Rattle.std.proofs.Common.{◌≡◌, ◌≢◌, ℕ, Bool, zero, suc, ◌+◌, ◌<◌, true, false, Option, Some, None, Result, Ok, Err, IfOk, IfErr, List, [], ◌∷◌, length, map, slice_get, refl, sym, ap, subst, ◌∙◌, inl, arith}
 use Rattle.mpicall.specs.Source.{coming}
 use Rattle.mpicall.specs.declared.call.Call.{Call}
 use Rattle.mpicall.specs.declared.source.Source.{Source}
@@ -16,10 +16,13 @@ use Rattle.gather.specs.inner.Closes.{IsOutcomeOver}
 use Rattle.gather.specs.Collected.{records_before, Kept, fault_at, refusal_in, refusal_kept}
 use Rattle.gather.specs.FeedContract.{IsFed}
 use Rattle.gather.specs.Receipts.{trace_of_items}
-use Rattle.driver.specs.Runs.{IsRefusalOfFeeds, RefusesFeeds}
+use Rattle.driver.specs.Runs.{IsOfTurns, IsRefusalOfFeeds, RefusesFeeds}
 use Rattle.driver.specs.inner.Runs.{AreFedBy, IsOutcomeOfFeeds, of_close}
-use Rattle.driver.proofs.HeldLemmas.{all_read}
+use Rattle.driver.proofs.HeldLemmas.{all_read, found_at, read_is_started}
 use Rattle.driver.specs.inner.Turns.{IsReadOf, AreReadOf}
+use Rattle.mpicall.specs.declared.fault.SourceFault.TheVariants.{ThreadNotStarted}
+use Rattle.gather.specs.declared.fault.RankFault.{RankFault}
+use Rattle.gather.specs.declared.fault.RankFault.TheVariants.{OfSource}
 use Rattle.gather.specs.declared.fault.Refusal.{Refusal}
 use Rattle.gather.specs.declared.outcome.CloseFault.{CloseFault}
 use Rattle.gather.specs.declared.outcome.CloseFault.TheVariants.{Memory, Unproved, Refused}
@@ -79,6 +82,16 @@ all_whole left may_answer groups first (s ∷ ss) (f ∷ fs) (l ∷ ls) places o
     }
 all_whole left may_answer groups first sources faults lists places one each = cc
 
+-- the rank that is refused has its fault
+refused_in : (first : ℕ) (faults : List (Option PlacedFault)) (refusal : Refusal) → refusal_in first faults ≡ Some refusal → (k : ℕ) × (k < length faults) × (fault_at faults k ≡ Some (refusal.call, refusal.fault))
+refused_in first [] refusal e = cc
+refused_in first (None ∷ faults) refusal e = let rest = refused_in (first + 1) faults refusal e in (suc rest.0, omega (arith, rest.1), rest.2)
+refused_in first (Some (place, fault) ∷ faults) refusal e =
+    let own : Refusal = record { rank = first; call = place; fault = fault } in
+    let is : Some own ≡ Some refusal = e in
+    let same : own ≡ refusal = cc in
+    (0, omega arith, ap (λ (r : Refusal). Some (r.call, r.fault)) same)
+
 module _ {I : Type 0} (left : I → Option (List ℕ)) (may_answer : ℕ → ℕ → Bool → Type 0) (sources : List (Source I)) (kept : Kept) where
   read_whole : AreReadOf left may_answer sources kept → kept.wanted ≡ false → AreKeptWhole left may_answer kept.groups 0 sources kept.faults kept.recording
   read_whole read calm =
@@ -90,6 +103,21 @@ module _ {I : Type 0} (left : I → Option (List ℕ)) (may_answer : ℕ → ℕ
   read_closed read calm none lawful =
       let all = read_whole read calm in
       λ rank is_rank. an_ended_lawful_list_is_closed kept.groups rank (calls_of kept.recording rank) (lawful rank is_rank) (all.ended none rank is_rank)
+
+  started : (refusal : Refusal) → AreReadOf left may_answer sources kept → kept.wanted ≡ false → refusal_kept kept ≡ Some refusal → refusal.fault ≢ OfSource ThreadNotStarted
+  started refusal read calm refused is =
+      let at = refused_in 0 kept.faults refusal refused in
+      let one_a_source : length kept.faults ≡ length sources = read.places ∙ read.one_a_rank in
+      let source = found_at sources at.0 (omega (arith, at.1, one_a_source)) in
+      let whole = kept_whole left may_answer at.0 source.0 kept (read.each at.0 source.0 source.1) calm in
+      read_is_started kept.groups at.0 (coming left source.0) (may_answer at.0) whole.items refusal.call whole.fed
+      (sym whole.first ∙ at.2 ∙ ap (λ (fault : RankFault). Some (refusal.call, fault)) is)
+
+  pub concludes_by_turns : (answer : Result Analysed CloseFault) → AreReadOf left may_answer sources kept → Concludes kept answer → IfErr answer (λ fault. IsOfTurns (of_close fault))
+  concludes_by_turns (Ok outcome) read c = tt
+  concludes_by_turns (Err Memory) read c = tt
+  concludes_by_turns (Err (Unproved rank)) read c = absurd c
+  concludes_by_turns (Err (Refused refusal)) read c = started refusal read c.0 c.1
 
   module _ (reading : Reading) (groups : Groups) where
     outcome_read : (outcome : Analysed) → AreReadOf left may_answer sources kept → kept.reading ≡ reading → kept.groups ≡ groups → kept.wanted ≡ false → IsOutcomeOf (refusal_kept kept) kept.reading kept.groups kept.recording outcome → IsOutcomeOfFeeds left may_answer sources reading groups outcome

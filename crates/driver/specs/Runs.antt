@@ -1,5 +1,5 @@
 -- What a run answers, by what is read of its ranks' sources: put on their feeds by threads, or entered by turns.
-use Rattle.std.specs.Prelude.{◌≡◌, ◌⊎◌, ℕ, ◌+◌, ◌<◌, ⊤, Bool, false, Option, Some, None, List, [], ◌∷◌}
+use Rattle.std.specs.Prelude.{◌≡◌, ◌≢◌, ◌⊎◌, ℕ, ◌+◌, ◌<◌, ⊤, Bool, false, Option, Some, None, List, [], ◌∷◌}
 use Rattle.mpicall.specs.Trace.{Trace, ends_here}
 use Rattle.mpicall.specs.declared.call.Call.{Call}
 use Rattle.mpicall.specs.declared.source.Source.{Source}
@@ -68,3 +68,9 @@ pub record AcceptsFeeds {I : Type 0} (left : I → Option (List ℕ)) (may_answe
 abbrev pub StopsWhereAllowed : (ℕ → ℕ → Bool → Type 0) → RunFault → Type 0
 StopsWhereAllowed may_answer (Refused refusal) = refusal.fault ≡ OfSource GateStopped → may_answer refusal.rank (line_behind refusal.call) false
 StopsWhereAllowed may_answer fault = ⊤
+
+-- a run by turns starts no thread, and its sources' ends need no proof
+abbrev pub IsOfTurns : RunFault → Type 0
+IsOfTurns (Refused refusal) = refusal.fault ≢ OfSource ThreadNotStarted
+IsOfTurns (Unproved rank) = ⊥
+IsOfTurns fault = ⊤

@@ -7,7 +7,7 @@ ghost use Rattle.gather.specs.Outcomes.{refusal_of};
 ghost use Rattle.driver.specs.VerdictContract.{AreFresh, Tells, IsVerdictOver, RefusesOver, TheTraceToComeIsRead};
 ghost use Rattle.driver.specs.inner.Ranks.{Reported, NotReported};
 ghost use Rattle.driver.specs.OutputContract.{LeavesOutput, WritesReport};
-ghost use Rattle.driver.specs.Runs.{AcceptsFeeds, RefusesFeeds, StopsWhereAllowed};
+ghost use Rattle.driver.specs.Runs.{AcceptsFeeds, IsOfTurns, RefusesFeeds, StopsWhereAllowed};
 ghost use Rattle.driver.specs.inner.Runs.{receipt_of, of_close, IsOutcomeOfFeeds};
 
 use crate::round_robin::read_in_turns;
@@ -132,6 +132,7 @@ where
     requires fresh { AreFresh sources.items }
     ensures ok { IfOk result (IsOutcomeOfFeeds I.left (G.may_answer gate.now) sources.items reading head) }
     ensures fault { IfErr result (λ fault. RefusesFeeds I.left (G.may_answer gate.now) sources.items head (of_close fault)) }
+    ensures turns { IfErr result (λ fault. IsOfTurns (of_close fault)) }
 {
     let Ok(turns) = vec![in alloc; Turn::first(); sources.len()] else {
         return Err(CloseFault::Memory);
@@ -165,6 +166,7 @@ where
     ensures ok { IfOk result (IsOutcomeOfFeeds I.left (G.may_answer gate.now) sources.items reading head) }
     ensures fault { IfErr result (λ fault. RefusesFeeds I.left (G.may_answer gate.now) sources.items head (of_close fault)) }
     ensures stopped { IfErr result (λ fault. StopsWhereAllowed (G.may_answer gate.now) (of_close fault)) }
+    ensures turns { by ≡ ReadBy.Turns → IfErr result (λ fault. IsOfTurns (of_close fault)) }
 {
     match by {
         ReadBy::Threads { stack_size } => {
@@ -249,6 +251,9 @@ where
     ensures asked { OnOk result (AcceptsFeeds I.left (G.may_answer gate.now) sources.items head) }
     ensures fed { IfErr result (RefusesFeeds I.left (G.may_answer gate.now) sources.items head) }
     ensures stopped { IfErr result (StopsWhereAllowed (G.may_answer gate.now)) }
+
+    // By turns no thread is wanted, and no proof of a source's end.
+    ensures turns { by ≡ ReadBy.Turns → IfErr result IsOfTurns }
 
     // What is written is the report of those traces, with that verdict.
     ensures written { IfOk result (WritesReport I.left O.written O.failures sources.items reading head format out.old out.new) }

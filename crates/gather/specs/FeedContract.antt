@@ -3,7 +3,7 @@ use Rattle.std.specs.Prelude.{◌≡◌, ◌⊎◌, ℕ, ◌+◌, ◌-◌, ◌^�
 use Rattle.mpicall.specs.Device.{count_if, one_more}
 use Rattle.mpicall.specs.Trace.{Trace}
 use Rattle.mpicall.specs.declared.call.Call.{Call}
-use Rattle.mpicall.specs.declared.fault.SourceFault.TheVariants.{ReadFailed, GateStopped, NoFinalize}
+use Rattle.mpicall.specs.declared.fault.SourceFault.TheVariants.{ReadFailed, GateStopped, NoFinalize, ThreadNotStarted}
 use Rattle.rankfeed.specs.Items.{end_the_list, end_mark_of}
 use Rattle.rankfeed.specs.Rings.{sent_whole}
 use Rattle.rankfeed.specs.declared.answer.Unsealed.{Unsealed}
@@ -43,9 +43,10 @@ EndsAs trace calls end = (trace.records ≡ calls) × (end ≡ mark_of trace.rec
 abbrev pub line_behind : ℕ → ℕ
 line_behind count = min count (2 ^ 32 - 1)
 
--- where the gate stopped the records, it may do so at the line after them
+-- where the gate stopped the records, it may do so at the line after them; no source says that its thread didn't start
 abbrev pub StopsAs : (ℕ → Bool → Type 0) → List Call → Ending → Type 0
 StopsAs may_answer calls (Torn GateStopped) = may_answer (line_behind (length calls)) false
+StopsAs may_answer calls (Torn ThreadNotStarted) = ⊥
 StopsAs may_answer calls end = ⊤
 
 -- how often the gate let the source be asked: for each record, and for the end that the source told
