@@ -89,5 +89,6 @@ pub mod SunkPending
 pub mod SunkWaits
 pub mod SunkBlocks
 pub mod SunkCalls
+pub mod SunkPlain
 pub mod BackLemmas
 pub mod MovedLemmas

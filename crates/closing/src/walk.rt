@@ -48,7 +48,6 @@ use crate::pending::{Pending, Sink, Sinks};
 use crate::rank_comms::RankComms;
 use crate::standing::Standing;
 use crate::stop::Stop;
-use crate::walk::message::Halves;
 use crate::why::Why;
 use journals::field::Field;
 use journals::journal::Journal;
@@ -61,6 +60,7 @@ use std::alloc::{AllocError, Global};
 mod collective;
 mod made;
 mod message;
+mod seldom;
 mod sinks;
 mod wait;
 
@@ -708,7 +708,8 @@ impl Walk {
     }
 
     /// Puts the lines of an entry, or answers why the list ends at it. What is taken by calls is copied, so that a call
-    /// whose variant is known needs no place in memory.
+    /// whose variant is known needs no place in memory. Other calls go to
+    /// a function of their own, so that this one stays small enough to be inlined.
     #[inline(always)]
     fn take(
         &mut self,
@@ -726,10 +727,6 @@ impl Walk {
             LateCall (choice_in self.old.choice) spot (called_view it.now) self.old.list self.old.late.items self.new.late.items) }
     {
         match it {
-            Called::Sends(mode, sent) => {
-                let sent = *sent;
-                self.sends(at, *mode, &sent)
-            }
             Called::StartsSend(own, mode, sent) => {
                 let sent = *sent;
                 self.starts_send(at, *own, *mode, &sent)
@@ -742,47 +739,8 @@ impl Walk {
                 let awaited = self.requests.unless_moved(*own, awaited);
                 self.starts_receive(lines, at, *own, &awaited)
             }
-            Called::Exchanges(sent, awaited) => {
-                let (sent, awaited) = (*sent, *awaited);
-                self.exchanges(at, &sent, &awaited)
-            }
-            Called::StartsExchange(own, other, sent, awaited) => {
-                let awaited = self.requests.unless_moved(*other, awaited);
-                let halves = Halves {
-                    own: *own,
-                    other: *other,
-                    sent: *sent,
-                    awaited,
-                };
-                self.starts_exchange(lines, at, &halves)
-            }
-            Called::Probes(awaited) => {
-                let awaited = *awaited;
-                self.probes(at, &awaited)
-            }
-            Called::ProbesMatching(own, awaited) => {
-                let awaited = *awaited;
-                self.probes_matching(at, *own, &awaited)
-            }
-            Called::Collects(collective, _, root) => self.collects(at, *collective, *root),
-            Called::StartsCollective(own, collective, _, root) => {
-                self.starts_collective(at, *own, *collective, *root)
-            }
-            Called::StartsDuplicate(own, _) => self.starts_duplicate(at, *own),
-            Called::MakesOfGroup(_) => self.makes_of_group(at),
-            Called::Duplicates(_) => {
-                let it = *it;
-                self.makes(run, at, &it)
-            }
-            Called::Splits(..) => {
-                let it = *it;
-                self.makes(run, at, &it)
-            }
-            Called::Makes(_) => {
-                let it = *it;
-                self.makes(run, at, &it)
-            }
-            _ => self.take_wait(lines, at, it),
+            Called::Waits(_) => self.take_wait(lines, at, it),
+            _ => self.take_seldom(run, lines, at, it),
         }
     }
 }

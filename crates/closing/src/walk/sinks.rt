@@ -1,6 +1,6 @@
 //! Entries that may take what a receive took of which nobody knows the message, and calls in which ranks were.
 
-ghost use Rattle.std.specs.Prelude.{◌≡◌, ◌≤◌, ◌++◌, ◌∷◌, [], ℕ, List as Items, Bool, true, false, not, ◌&&◌, IfSome, IsTrue, None, Some, OnOk, length, option_map, option_to_list, is_some, if◌then◌else◌};
+ghost use Rattle.std.specs.Prelude.{◌≡◌, ◌≤◌, ◌++◌, ◌∷◌, [], ℕ, List as Items, Bool, true, false, not, ◌&&◌, IfSome, IsTrue, None, Some, Ok, OnOk, length, option_map, option_to_list, is_some, if◌then◌else◌};
 ghost use Rattle.std.specs.List.{filter_map, list_all, list_any};
 ghost use Rattle.mpicall.specs.Limits.{in_ranges};
 ghost use Rattle.journals.specs.Lines.{Line};
@@ -263,9 +263,48 @@ impl Walk {
         }
     }
 
-    /// The same, where receives may be sinks.
+    /// The same, where receives may be sinks. Most calls are plain, and need no place in memory.
     #[inline(always)]
     fn takes_sink_by(&mut self, lines: &Lines, at: &At<'_>, it: &Called<'_>) -> Result<bool, Stop>
+        ensures same { self.new ≡ record self.old { list = self.new.list; sinks = self.new.sinks; pending = self.new.pending; left_out = self.new.left_out } }
+        ensures takes { (spot : Spot) → Meets spot lines.now self.old.requests at.now it.now → spot.line ≡ self.old.line → ChoseBack spot at.now.came_back →
+            TakesSunk spot.line at.now.came_back (λ records. sunk_on spot at.now.came_back records (called_view it.now))
+            (pending_on spot (called_view it.now)) (idle_on spot at.now.came_back (called_view it.now)) result self.old self.new }
+    {
+        if self.is_plain(lines, at, it) {
+            return Ok(false);
+        }
+        let (at, it) = (at.copy(), *it);
+        self.meets_sinks(lines, &at, &it)
+    }
+
+    /// Whether it is seen at once that a call is what it is without sinks: there are none, and its message is known.
+    #[inline(always)]
+    fn is_plain(&self, lines: &Lines, at: &At<'_>, it: &Called<'_>) -> bool
+        ensures { result ≡ true → (spot : Spot) → Meets spot lines.now self.now.requests at.now it.now →
+            TakesSunk spot.line at.now.came_back (λ records. sunk_on spot at.now.came_back records (called_view it.now))
+            (pending_on spot (called_view it.now)) (idle_on spot at.now.came_back (called_view it.now)) (Ok false) self.now self.now }
+    {
+        if !self.sinks.are_none() {
+            return false;
+        }
+        match it {
+            Called::Sends(..) => true,
+            Called::StartsSend(..) => true,
+            Called::Receives(awaited) => message_of(awaited, at.got).is_some(),
+            Called::StartsReceive(own, awaited) => {
+                let awaited = self.requests.unless_moved(*own, awaited);
+                message_of(&awaited, self.requests.message(lines, *own)).is_some()
+            }
+            Called::Waits(_) => true,
+            Called::Collects(..) => true,
+            _ => false,
+        }
+    }
+
+    /// Takes an entry by the sinks before it.
+    #[inline(never)]
+    fn meets_sinks(&mut self, lines: &Lines, at: &At<'_>, it: &Called<'_>) -> Result<bool, Stop>
         ensures same { self.new ≡ record self.old { list = self.new.list; sinks = self.new.sinks; pending = self.new.pending; left_out = self.new.left_out } }
         ensures takes { (spot : Spot) → Meets spot lines.now self.old.requests at.now it.now → spot.line ≡ self.old.line → ChoseBack spot at.now.came_back →
             TakesSunk spot.line at.now.came_back (λ records. sunk_on spot at.now.came_back records (called_view it.now))
@@ -391,34 +430,9 @@ impl Walk {
         }
     }
 
-    /// Whether a message is known, and no sink may take it, since there is none.
-    #[inline(always)]
-    fn is_plain(&self, found: Option<Message>) -> bool
-        ensures known { result ≡ true → is_some (option_map message_view found) ≡ true }
-        ensures none { result ≡ true → self.now.sinks.all.items ≡ [] }
-    {
-        found.is_some() && self.sinks.are_none()
-    }
-
     /// A receive or probe that blocks.
-    #[inline(always)]
-    fn blocks_sink(&mut self, at: &At<'_>, awaited: &Awaited, leaves: Leaves) -> Result<bool, Stop>
-        ensures same { self.new ≡ record self.old { list = self.new.list; sinks = self.new.sinks; pending = self.new.pending; left_out = self.new.left_out } }
-        ensures takes { (spot : Spot) → IsAt spot at.now → spot.line ≡ self.old.line →
-            TakesSunk spot.line at.now.came_back (blocks_sunk spot at.now.came_back leaves (awaited_view awaited.now) (message_said (awaited_view awaited.now) spot.got))
-            (λ progress. message_pending (wants_in spot.size spot.number (awaited_view awaited.now) (message_said (awaited_view awaited.now) spot.got))) (λ progress. unknown) result self.old self.new }
-    {
-        let found = message_of(awaited, at.got);
-        if self.is_plain(found) {
-            return Ok(false);
-        }
-        let (at, awaited) = (at.copy(), *awaited);
-        self.blocks_met(&at, &awaited, leaves)
-    }
-
-    /// The same where its message isn't known, or a sink may take it.
     #[inline(never)]
-    fn blocks_met(&mut self, at: &At<'_>, awaited: &Awaited, leaves: Leaves) -> Result<bool, Stop>
+    fn blocks_sink(&mut self, at: &At<'_>, awaited: &Awaited, leaves: Leaves) -> Result<bool, Stop>
         ensures same { self.new ≡ record self.old { list = self.new.list; sinks = self.new.sinks; pending = self.new.pending; left_out = self.new.left_out } }
         ensures takes { (spot : Spot) → IsAt spot at.now → spot.line ≡ self.old.line →
             TakesSunk spot.line at.now.came_back (blocks_sunk spot at.now.came_back leaves (awaited_view awaited.now) (message_said (awaited_view awaited.now) spot.got))
@@ -477,30 +491,8 @@ impl Walk {
         }
     }
 
-    #[inline(always)]
-    fn starts_receive_sink(
-        &mut self,
-        lines: &Lines,
-        at: &At<'_>,
-        own: u32,
-        awaited: &Awaited,
-    ) -> Result<bool, Stop>
-        ensures same { self.new ≡ record self.old { list = self.new.list; sinks = self.new.sinks; left_out = self.new.left_out } }
-        ensures takes { (spot : Spot) → IsAt spot at.now → spot.line ≡ self.old.line → spot.lines ≡ lines.now → Tells spot.lines self.old.requests.outcomes →
-            TakesSunk spot.line at.now.came_back (starts_receive_sunk spot own (awaited_view awaited.now) (message_said (awaited_view awaited.now) (done_of spot.lines own)))
-            (λ progress. unknown) (λ progress. unknown) result self.old self.new }
-    {
-        let found = message_of(awaited, self.requests.message(lines, own));
-        if self.is_plain(found) {
-            return Ok(false);
-        }
-        let (at, awaited) = (at.copy(), *awaited);
-        self.starts_receive_met(lines, &at, own, &awaited)
-    }
-
-    /// The same where its message isn't known, or a sink may take it.
     #[inline(never)]
-    fn starts_receive_met(
+    fn starts_receive_sink(
         &mut self,
         lines: &Lines,
         at: &At<'_>,
@@ -556,7 +548,6 @@ impl Walk {
     // ---- Waits ----
 
     /// Whether one of some requests is a sink's.
-    #[inline(always)]
     fn name_sink(&self, requests: &[Field]) -> bool
         ensures { (lines : Items Line) (records : Items Written) → HasSinks records self.now.sinks → Tells lines self.now.requests.outcomes →
             AllStandFor lines self.now.requests (naturals_in requests.now) → result ≡ names_sink lines (naturals_in requests.now) records }
@@ -568,7 +559,6 @@ impl Walk {
     }
 
     /// Whether a wait or test ends the list, since it names a sink. As it went, one that came back stands for nothing.
-    #[inline(always)]
     fn ends_at_sink(&self, at: &At<'_>, requests: &[Field]) -> bool
         ensures { (lines : Items Line) (records : Items Written) → HasSinks records self.now.sinks → Tells lines self.now.requests.outcomes →
             AllStandFor lines self.now.requests (naturals_in requests.now) → result ≡ (not at.now.is_past && names_sink lines (naturals_in requests.now) records) }
@@ -620,7 +610,6 @@ impl Walk {
     }
 
     /// A wait that names a sink ends the list.
-    #[inline(always)]
     fn waits_for_sink(&mut self, at: &At<'_>, requests: &[Field]) -> Result<bool, Stop>
         ensures same { self.new ≡ record self.old { pending = self.new.pending } }
         ensures takes { (spot : Spot) → IsAt spot at.now → Tells spot.lines self.old.requests.outcomes → AllStandFor spot.lines self.old.requests (naturals_in requests.now) →
