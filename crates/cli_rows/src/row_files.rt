@@ -12,8 +12,9 @@ use std::sync::atomic::{AtomicBool, AtomicU64, Ordering};
 use std::time::{Clock, Duration};
 use std::{io, thread};
 
-/// How often a first read looks whether the other one was asked for as well.
-const MOST_LOOKS: u32 = 100_000;
+/// How often a first read looks whether the other one was asked for as well, a millisecond apart: a busy machine may
+/// let the other thread wait for long.
+const MOST_LOOKS: u32 = 2_000;
 
 /// Which of two files were read.
 #[derive(Drop)]
@@ -41,13 +42,13 @@ pub struct Waits<'a> {
 
 impl Waits<'_> {
     /// Whether the other file is read as well, before so many looks.
-    fn meet(self) -> bool {
+    fn meet(self, clock: &impl Clock) -> bool {
         self.own.store(true, Ordering::SeqCst);
         for _ in 0..MOST_LOOKS {
             if self.other.load(Ordering::SeqCst) {
                 return true;
             }
-            thread::yield_now();
+            thread::sleep(clock, Duration::from_millis(1));
         }
         false
     }
@@ -108,7 +109,7 @@ impl<'a, R: Clock> io::Read for Pieces<'a, R> {
         self.rests.rest(self.reads);
         self.reads = self.reads.saturating_add(1);
         if let Some(waits) = self.waits.take() {
-            if !waits.meet() {
+            if !waits.meet(self.rests.clock) {
                 return Err(io::Error::from(io::ErrorKind::TimedOut));
             }
         }

@@ -161,13 +161,16 @@ fn a_session_of_1024_ranks_in_one_thread(rt: HostRuntime) -> Result<(), Fail> {
     Ok(())
 }
 
+/// How often a watch is read, for half a minute or more: a busy machine may let the collector wait for long.
+const MOST_READS: u32 = 100_000_000;
+
 /// Reads rank 0's stand over and over until it is 2. Whether it came to that, and no answer fell.
 fn rises_to_the_end(watch: Option<Watch>) -> bool {
     let Some(mut watch) = watch else {
         return false;
     };
     let mut last = 0;
-    for _ in 0..100_000u32 {
+    for _ in 0..MOST_READS {
         let Ok(Some(stand)) = watch.read(0) else {
             return false;
         };

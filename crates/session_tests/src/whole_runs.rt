@@ -79,6 +79,10 @@ fn answer<G: Gate + Sync, R: Threads + Wait + Sync>(
     }
 }
 
+/// How often a rank looks whether the other one is asked too, for half a minute or more: a busy machine may let the
+/// other thread wait for long.
+const MOST_LOOKS: u32 = 100_000_000;
+
 /// A gate at whose first question each of two ranks waits until the other one is asked as well.
 #[derive(Drop)]
 struct Meeting {
@@ -94,7 +98,7 @@ impl Gate for Meeting {
             (&self.second, &self.first)
         };
         own.store(true, Ordering::SeqCst);
-        for _ in 0..100_000u32 {
+        for _ in 0..MOST_LOOKS {
             if line > 0 || other.load(Ordering::SeqCst) {
                 return true;
             }
