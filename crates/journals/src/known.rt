@@ -49,6 +49,7 @@ pub(crate) struct Known {
     is_over: bool,
 }
 
+#[inline(always)]
 fn ends_journal(word: CallWord) -> bool
     ensures { result ≡ ends_journal (Call word) }
 {
@@ -68,6 +69,7 @@ fn is_request(form: Form) -> bool
 }
 
 /// Whether a line is that of the last call.
+#[inline(always)]
 fn is_last(last: Option<LastCall>, line: Option<u32>) -> bool
     ensures { result ≡ is_last last line }
 {
@@ -78,6 +80,7 @@ fn is_last(last: Option<LastCall>, line: Option<u32>) -> bool
 }
 
 /// Whether a report can be of the request that this is known of.
+#[inline(always)]
 fn may_be_of(last: Option<LastCall>, word: ReportWord, note: Note) -> bool
     ensures { result ≡ may_be_by last word note }
 {
@@ -97,6 +100,7 @@ fn may_be_of(last: Option<LastCall>, word: ReportWord, note: Note) -> bool
     }
 }
 
+#[inline(always)]
 fn is_unfit(last: Option<LastCall>, word: ReportWord, note: Option<Note>) -> bool
     ensures { result ≡ is_unfit last word note }
 {
@@ -107,6 +111,7 @@ fn is_unfit(last: Option<LastCall>, word: ReportWord, note: Option<Note>) -> boo
 }
 
 /// The call line that completed the requests of a report by this report.
+#[inline(always)]
 fn chosen_by(last: Option<LastCall>, word: ReportWord) -> Option<u32>
     ensures { result ≡ chosen_by last word }
 {
@@ -124,6 +129,7 @@ fn chosen_by(last: Option<LastCall>, word: ReportWord) -> Option<u32>
 }
 
 /// Whether the group that a call line names is one.
+#[inline(always)]
 fn is_right_call(marks: &mut Marks, rank: u32, word: CallWord, fields: &[Field]) -> bool
     requires { word ≡ call.CommCreateGroup → AreMembers (ranks_in marks.old) fields.now }
     ensures ranks { ranks_in marks.new ≡ ranks_in marks.old }
@@ -213,11 +219,51 @@ impl Known {
             return Err(LineFault::Journal(JournalFaultKind::AfterEnd));
         }
         match taken.word {
-            Word::Call(word) => self.admit_call(lines, taken.line, word),
-            Word::Report(word) => self.admit_report(lines, taken.line, word),
+            Word::Call(CallWord::Isend) => self.admit_call(lines, taken.line, CallWord::Isend),
+            Word::Call(CallWord::Irecv) => self.admit_call(lines, taken.line, CallWord::Irecv),
+            Word::Call(CallWord::Wait) => self.admit_call(lines, taken.line, CallWord::Wait),
+            Word::Call(CallWord::Recv) => self.admit_call(lines, taken.line, CallWord::Recv),
+            Word::Call(word) => self.admit_any(lines, taken.line, word),
+            Word::Report(ReportWord::Got) => self.admit_report(lines, taken.line, ReportWord::Got),
+            Word::Report(ReportWord::Done) => self.admit_report(lines, taken.line, ReportWord::Done),
+            Word::Report(word) => self.admit_any_report(lines, taken.line, word),
         }
     }
 
+    /// Takes a call line of any word.
+    #[inline(never)]
+    fn admit_any(&mut self, lines: &Lines, line: u32, word: CallWord) -> Result<(), LineFault>
+        requires next { IsNext (ranks_in self.old.marks) lines.now line
+            (record { word = Call word; fields = fields_at lines.now line }) }
+        requires knows { Knows (take line lines.now) self.old }
+        requires goes_on { self.old.is_over ≡ false }
+        requires some { 1 ≤ ranks_in self.old.marks }
+        ensures owner { owner_of self.new ≡ owner_of self.old }
+        ensures answer { Answers (owner_of self.old) (take line lines.now)
+            (record { word = Call word; fields = fields_at lines.now line }) result }
+        ensures knows { OnOk result (Knows lines.now self.new) }
+    {
+        self.admit_call(lines, line, word)
+    }
+
+    /// Takes a report of any word.
+    #[inline(never)]
+    fn admit_any_report(&mut self, lines: &Lines, line: u32, word: ReportWord) -> Result<(), LineFault>
+        requires next { IsNext (ranks_in self.old.marks) lines.now line
+            (record { word = Report word; fields = fields_at lines.now line }) }
+        requires knows { Knows (take line lines.now) self.old }
+        requires goes_on { self.old.is_over ≡ false }
+        requires some { 1 ≤ ranks_in self.old.marks }
+        ensures owner { owner_of self.new ≡ owner_of self.old }
+        ensures answer { Answers (owner_of self.old) (take line lines.now)
+            (record { word = Report word; fields = fields_at lines.now line }) result }
+        ensures knows { OnOk result (Knows lines.now self.new) }
+    {
+        self.admit_report(lines, line, word)
+    }
+
+    /// Takes a call line; of a word that is known where this is called by what is built for it.
+    #[inline(always)]
     fn admit_call(&mut self, lines: &Lines, line: u32, word: CallWord) -> Result<(), LineFault>
         requires next { IsNext (ranks_in self.old.marks) lines.now line
             (record { word = Call word; fields = fields_at lines.now line }) }
@@ -242,7 +288,8 @@ impl Known {
         Ok(())
     }
 
-    #[inline(never)]
+    /// Takes a report, likewise.
+    #[inline(always)]
     fn admit_report(&mut self, lines: &Lines, line: u32, word: ReportWord) -> Result<(), LineFault>
         requires next { IsNext (ranks_in self.old.marks) lines.now line
             (record { word = Report word; fields = fields_at lines.now line }) }
@@ -278,6 +325,7 @@ impl Known {
         self.note_last(lines, word)
     }
 
+    #[inline(always)]
     fn may_follow(&self, lines: &Lines, word: ReportWord, count: usize) -> bool
         ensures { result ≡ may_follow_last self.now.last lines.now word count }
     {
@@ -288,6 +336,7 @@ impl Known {
     }
 
     /// Whether a report names a known request that can't have it.
+    #[inline(always)]
     #[tactic(auto, using(crate::proofs::NoteSteps::none_numbered_left))]
     fn names_unfit(&self, word: ReportWord, fields: &[Field]) -> bool
         requires { length (forms_of (Report word) (length fields.now)) ≡ length fields.now }
@@ -305,6 +354,7 @@ impl Known {
     }
 
     /// Whether a report may be here.
+    #[inline(always)]
     fn is_in_place(&self, lines: &Lines, word: ReportWord, fields: &[Field]) -> bool
         requires { length (forms_of (Report word) (length fields.now)) ≡ length fields.now }
         ensures { result ≡ (may_follow_last self.now.last lines.now word (length fields.now)
@@ -373,6 +423,7 @@ impl Known {
     }
 
     /// Whether the group of the communicator that a report brings is right.
+    #[inline(always)]
     fn is_right_report(&mut self, lines: &Lines, word: ReportWord, fields: &[Field]) -> bool
         requires group { AreMembers (ranks_in self.old.marks) (group_fields (Report word) fields.now) }
         requires named { IfSome self.old.last (λ last. last.word ≡ call.CommCreateGroup
@@ -394,6 +445,7 @@ impl Known {
     }
 
     /// Notes that the last call has a report.
+    #[inline(always)]
     fn note_last(&mut self, lines: &Lines, word: ReportWord) -> Result<(), LineFault>
         ensures last { self.new.last ≡ option_map (with_report word) self.old.last }
         ensures notes { OnOk result ((number : ℕ) → note_at self.new.notes number
@@ -412,6 +464,7 @@ impl Known {
     }
 }
 
+#[inline(always)]
 fn brings(word: ReportWord) -> bool
     ensures { result ≡ brings word }
 {
@@ -422,6 +475,7 @@ fn brings(word: ReportWord) -> bool
 }
 
 /// Takes the communicator that the report of a line brings, if it brings one.
+#[inline(always)]
 fn bring_comm(
     comms: &mut HashMap<u32, u32>,
     word: ReportWord,

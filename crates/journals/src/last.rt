@@ -23,6 +23,7 @@ pub(crate) struct LastCall {
     pub has_failed: bool,
 }
 
+#[inline(always)]
 fn takes_message(word: CallWord) -> bool
     ensures { result ≡ takes_message word }
 {
@@ -33,6 +34,7 @@ fn takes_message(word: CallWord) -> bool
 }
 
 /// Whether a wait for any or some of several may choose so many.
+#[inline(always)]
 fn may_choose(word: CallWord, count: usize) -> bool
     ensures { result ≡ may_choose word count }
 {
@@ -43,6 +45,7 @@ fn may_choose(word: CallWord, count: usize) -> bool
     }
 }
 
+#[inline(always)]
 fn completes_requests(word: CallWord) -> bool
     ensures { result ≡ completes_requests word }
 {
@@ -52,6 +55,7 @@ fn completes_requests(word: CallWord) -> bool
     )
 }
 
+#[inline(always)]
 fn makes_comm(word: CallWord) -> bool
     ensures { result ≡ makes_comm word }
 {
@@ -68,6 +72,7 @@ fn is_undefined(fields: &[Field]) -> bool
 }
 
 /// Whether a call may bring a communicator to this rank.
+#[inline(always)]
 fn may_bring_comm(word: CallWord, fields: &[Field]) -> bool
     ensures { result ≡ may_bring_comm word fields.now }
 {
@@ -78,6 +83,7 @@ fn may_bring_comm(word: CallWord, fields: &[Field]) -> bool
     }
 }
 
+#[inline(always)]
 fn may_fail(word: CallWord) -> bool
     ensures { result ≡ may_fail word }
 {

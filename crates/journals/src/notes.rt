@@ -207,7 +207,7 @@ fn looked_at(word: CallWord, count: usize) -> usize
 
 /// Notes what a call line says of its requests and messages.
 #[tactic(auto, using(crate::proofs::NoteSteps::none_numbered_left))]
-#[inline(never)]
+#[inline(always)]
 pub(crate) fn note_call(notes: &mut Notes, call: CallLine<'_>) -> Result<(), LineFault>
     requires { length (forms_of (Call call.word) (length call.fields.now)) ≡ length call.fields.now }
     ensures ok { OnOk result (may_use (may_call call.entry.line)
@@ -265,6 +265,7 @@ fn use_in_report(
 
 /// Notes what a report says of the requests that it names.
 #[tactic(auto, using(crate::proofs::NoteSteps::none_numbered_left))]
+#[inline(always)]
 pub(crate) fn note_report(notes: &mut Notes, report: ReportLine<'_>) -> Result<(), LineFault>
     requires { length (forms_of (Report report.word) (length report.fields.now)) ≡ length report.fields.now }
     ensures ok { OnOk result (may_use (may_report report.entry.line)

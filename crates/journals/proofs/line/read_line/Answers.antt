@@ -18,14 +18,14 @@ returns-then-is_stopped c =
 pub returns : goal.returns
 returns c =
     let has = c.in-Some.ensures in
-    rw (other_line c.args.ranks c.args.line.now has.text c.next_word.new.texts c.in-Some.word (sym c.of-fields.ensures ∙ has.first) has.spells (sym c.is_stopped.ensures ∙ c.if-is_stopped.false)) c.push_after_word.ensures
+    rw (other_line c.args.ranks c.args.line.now has.text c.next_word.new.texts c.in-Some.word (sym c.of-fields.ensures ∙ has.first) has.spells (sym c.is_stopped.ensures ∙ c.if-is_stopped.false)) c.push_by_word.ensures
 
-pub push_after_word-requires-clause-few : goal.push_after_word-requires-clause-few
-push_after_word-requires-clause-few c =
+pub push_by_word-requires-clause-few : goal.push_by_word-requires-clause-few
+push_by_word-requires-clause-few c =
     let has = c.in-Some.ensures in
     after_short c.args.line.now has.text c.next_word.new.texts c.requires.short (sym c.of-fields.ensures ∙ has.first)
 
-pub push_after_word-requires-clause-after : goal.push_after_word-requires-clause-after
-push_after_word-requires-clause-after c =
+pub push_by_word-requires-clause-after : goal.push_by_word-requires-clause-after
+push_by_word-requires-clause-after c =
     let has = c.in-Some.ensures in
     ap (drop 1) (sym has.first ∙ c.of-fields.ensures)
