@@ -3,15 +3,16 @@ use Rattle.std.proofs.Common.{◌≡◌, ◌∙◌, sym, ap, refl, ℕ, zero, su
 use Rattle.std.specs.List.{list_any, filter_map, zip}
 use Rattle.std.proofs.lemmas.Bool.{cases_lt, or_parts}
 use Rattle.journals.specs.Words.{forms_of}
-use Rattle.journals.specs.Entries.{is_comm, is_new_comm, is_of_request}
+use Rattle.journals.specs.Entries.{is_comm, is_new_comm, is_of_request, is_request}
 use Rattle.journals.specs.inner.Numbered.{numbered_in, numbered, numbered_from}
 use Rattle.journals.specs.inner.Notes.{may_use, noted}
-use Rattle.journals.specs.inner.Knows.{wrong_comm}
-use Rattle.journals.specs.inner.Places.{call_comm_place, comm_place, looked_at, report_comm_place, requests_first}
+use Rattle.journals.specs.inner.Knows.{names_unfit_by, wrong_comm}
+use Rattle.journals.specs.inner.Places.{call_comm_place, comm_place, call_requests_first, looked_at, report_comm_place, report_requests_first, requests_first}
 use Rattle.journals.specs.declared.field.Field.{Field}
 use Rattle.journals.specs.declared.field.Field.TheVariants.{Natural, Signed, Null, Any, Undefined}
 use Rattle.journals.specs.declared.form.Form.{Form}
 use Rattle.journals.specs.declared.form.Form.TheVariants.{Bytes, Member, Request}
+use Rattle.journals.specs.declared.note.Note.{Note}
 use Rattle.journals.specs.declared.word.Word.{Word}
 use Rattle.journals.specs.declared.word.Word.TheVariants.{Call, Report}
 use Rattle.journals.specs.declared.word.CallWord.{CallWord}
@@ -133,17 +134,72 @@ module _ (known : ℕ → Bool) where
 
 -- ---- Requests and messages ----
 
+no_request : (form : Form) → is_of_request form ≡ false → is_request form ≡ false
+no_request Request none = cc
+no_request _ none = refl
+
 abbrev late_of : Option ℕ → List Form → List Form
 late_of None forms = []
 late_of (Some first) forms = drop first forms
 
-calls_late : (word : CallWord) (count : ℕ) → list_any is_of_request (late_of (requests_first word) (forms_of (Call word) count)) ≡ false
+calls_late : (word : CallWord) (count : ℕ) → list_any is_of_request (late_of (call_requests_first word) (forms_of (Call word) count)) ≡ false
 calls_late call.Send count = bytes_if is_of_request (count - 3 == 1) refl
 calls_late call.Isend count = bytes_if is_of_request (count - 4 == 1) refl
 calls_late call.Sendrecv count = bytes_if is_of_request (count - 5 == 1) refl
 calls_late call.Isendrecv count = bytes_if is_of_request (count - 7 == 1) refl
 calls_late call.CommCreateGroup count = any_replicate is_of_request Member (max 1 (count - 0)) refl
 calls_late _ count = refl
+
+reports_late : (word : ReportWord) (count : ℕ) → list_any is_of_request (late_of (report_requests_first word) (forms_of (Report word) count)) ≡ false
+reports_late report.Comm count = any_replicate is_of_request Member (max 1 (count - 1)) refl
+reports_late report.Idup count = any_replicate is_of_request Member (max 1 (count - 2)) refl
+reports_late report.Apart count = any_replicate is_of_request Member (max 1 (count - 1)) refl
+reports_late _ count = refl
+
+words_late : (word : Word) (count : ℕ) → list_any is_of_request (late_of (requests_first word) (forms_of word count)) ≡ false
+words_late (Call word) count = calls_late word count
+words_late (Report word) count = reports_late word count
+
+-- the fields up to which a line was looked at are all, or no later one is of a request or a message
+abbrev Late : Option ℕ → Word → List Field → ℕ → Type 0
+Late first word fields place = (place ≡ length fields) ⊎ (list_any is_of_request (drop place (forms_of word (length fields))) ≡ false)
+
+late : (word : Word) (fields : List Field) (place : ℕ) (first : Option ℕ) → requests_first word ≡ first → place ≡ looked_at first (length fields) → Late first word fields place
+late word fields place None is at = inl at
+late word fields place (Some first) is at =
+    either (cases_lt first (length fields))
+  where
+    either : (first < length fields) ⊎ (length fields ≤ first) → Late (Some first) word fields place
+    either (inl below) =
+        let here : place ≡ first = omega (arith, at, below) in
+        inr (ap (λ n. list_any is_of_request (drop n (forms_of word (length fields)))) here
+        ∙ ap (λ (o : Option ℕ). list_any is_of_request (late_of o (forms_of word (length fields)))) (sym is) ∙ words_late word (length fields))
+    either (inr beyond) = inl (omega (arith, at, beyond))
+
+module _ (unfit : Option Note → Bool) (notes : ℕ → Option Note) where
+  unfit_none : (forms : List Form) (fields : List Field) → list_any is_of_request forms ≡ false → names_unfit_by unfit notes (filter_map numbered_in (zip forms fields)) ≡ false
+  unfit_none [] fields none = refl
+  unfit_none (form ∷ forms) [] none = refl
+  unfit_none (form ∷ forms) (Natural number ∷ fields) none =
+      let parts = or_parts (is_of_request form) (list_any is_of_request forms) none in
+      rw (no_request form parts.0) (unfit_none forms fields parts.1)
+  unfit_none (form ∷ forms) (Signed number ∷ fields) none = unfit_none forms fields (or_parts (is_of_request form) (list_any is_of_request forms) none).1
+  unfit_none (form ∷ forms) (Null ∷ fields) none = unfit_none forms fields (or_parts (is_of_request form) (list_any is_of_request forms) none).1
+  unfit_none (form ∷ forms) (Any ∷ fields) none = unfit_none forms fields (or_parts (is_of_request form) (list_any is_of_request forms) none).1
+  unfit_none (form ∷ forms) (Undefined ∷ fields) none = unfit_none forms fields (or_parts (is_of_request form) (list_any is_of_request forms) none).1
+
+  unfit_past : (place : ℕ) (forms : List Form) (fields : List Field) → list_any is_of_request (drop place forms) ≡ false → names_unfit_by unfit notes (filter_map numbered_in (drop place (zip forms fields))) ≡ false
+  unfit_past zero forms fields none = unfit_none forms fields none
+  unfit_past (suc n) [] fields none = refl
+  unfit_past (suc n) (form ∷ forms) [] none = refl
+  unfit_past (suc n) (form ∷ forms) (field ∷ fields) none = unfit_past n forms fields none
+
+  pub unfit_late : (word : Word) (fields : List Field) (place : ℕ) → place ≡ looked_at (requests_first word) (length fields) → names_unfit_by unfit notes (numbered_from word fields place) ≡ false
+  unfit_late word fields place at =
+      elim (late word fields place (requests_first word) refl at) [
+        | inl all ↦ ap (names_unfit_by unfit notes) (ap (numbered_from word fields) all ∙ none_numbered_left word fields)
+        | inr none ↦ unfit_past place (forms_of word (length fields)) fields none
+      ]
 
 module _ {X : Type 0} (may : Form → X → Bool) (by : ℕ → Form → X → X) where
   may_none : (f : ℕ → X) (forms : List Form) (fields : List Field) → list_any is_of_request forms ≡ false → may_use may by f (filter_map numbered_in (zip forms fields)) ≡ true
@@ -180,32 +236,16 @@ module _ {X : Type 0} (may : Form → X → Bool) (by : ℕ → Form → X → X
   noted_past q note (suc n) (form ∷ forms) [] none = refl
   noted_past q note (suc n) (form ∷ forms) (field ∷ fields) none = noted_past q note n forms fields none
 
-  -- the fields up to which a call was looked at are all, or no later one is of a request or a message
-  abbrev Late : Option ℕ → CallWord → List Field → ℕ → Type 0
-  Late first word fields place = (place ≡ length fields) ⊎ (list_any is_of_request (drop place (forms_of (Call word) (length fields))) ≡ false)
-
-  late : (word : CallWord) (fields : List Field) (place : ℕ) (first : Option ℕ) → requests_first word ≡ first → place ≡ looked_at first (length fields) → Late first word fields place
-  late word fields place None is at = inl at
-  late word fields place (Some first) is at =
-      either (cases_lt first (length fields))
-    where
-      either : (first < length fields) ⊎ (length fields ≤ first) → Late (Some first) word fields place
-      either (inl below) =
-          let here : place ≡ first = omega (arith, at, below) in
-          inr (ap (λ n. list_any is_of_request (drop n (forms_of (Call word) (length fields)))) here
-          ∙ ap (λ (o : Option ℕ). list_any is_of_request (late_of o (forms_of (Call word) (length fields)))) (sym is) ∙ calls_late word (length fields))
-      either (inr beyond) = inl (omega (arith, at, beyond))
-
-  pub may_late : (f : ℕ → X) (word : CallWord) (fields : List Field) (place : ℕ) → place ≡ looked_at (requests_first word) (length fields) → may_use may by f (numbered_from (Call word) fields place) ≡ true
+  pub may_late : (f : ℕ → X) (word : Word) (fields : List Field) (place : ℕ) → place ≡ looked_at (requests_first word) (length fields) → may_use may by f (numbered_from word fields place) ≡ true
   may_late f word fields place at =
       elim (late word fields place (requests_first word) refl at) [
-        | inl all ↦ ap (may_use may by f) (ap (numbered_from (Call word) fields) all ∙ none_numbered_left (Call word) fields)
-        | inr none ↦ may_past f place (forms_of (Call word) (length fields)) fields none
+        | inl all ↦ ap (may_use may by f) (ap (numbered_from word fields) all ∙ none_numbered_left word fields)
+        | inr none ↦ may_past f place (forms_of word (length fields)) fields none
       ]
 
-  pub noted_late : (q : ℕ) (note : X) (word : CallWord) (fields : List Field) (place : ℕ) → place ≡ looked_at (requests_first word) (length fields) → noted by q note (numbered_from (Call word) fields place) ≡ note
+  pub noted_late : (q : ℕ) (note : X) (word : Word) (fields : List Field) (place : ℕ) → place ≡ looked_at (requests_first word) (length fields) → noted by q note (numbered_from word fields place) ≡ note
   noted_late q note word fields place at =
       elim (late word fields place (requests_first word) refl at) [
-        | inl all ↦ ap (noted by q note) (ap (numbered_from (Call word) fields) all ∙ none_numbered_left (Call word) fields)
-        | inr none ↦ noted_past q note place (forms_of (Call word) (length fields)) fields none
+        | inl all ↦ ap (noted by q note) (ap (numbered_from word fields) all ∙ none_numbered_left word fields)
+        | inr none ↦ noted_past q note place (forms_of word (length fields)) fields none
       ]

@@ -32,7 +32,9 @@ use crate::line::LineFault;
 use crate::lines::{Lines, Taken};
 use crate::note::Note;
 use crate::note_table::Notes;
-use crate::notes::{CallLine, ReportLine, note_call, note_report, number_at, undo_all};
+use crate::notes::{
+    CallLine, ReportLine, looked_at, note_call, note_report, number_at, undo_all,
+};
 use crate::word::{CallWord, ReportWord, Word};
 use std::alloc::{AllocError, Global};
 use std::collections::HashMap;
@@ -343,7 +345,7 @@ impl Known {
         ensures { result ≡ names_unfit_by (is_unfit self.now.last word) (note_at self.now.notes)
             (numbered (Report word) fields.now) }
     {
-        for place in 0..fields.len() {
+        for place in 0..looked_at(Word::Report(word), fields.len()) {
             if let Some((form, number)) = number_at(Word::Report(word), fields, place) {
                 if is_request(form) && is_unfit(self.last, word, self.notes.get(number)) {
                     return true;

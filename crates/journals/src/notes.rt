@@ -10,7 +10,7 @@ ghost use Rattle.journals.specs.Entries.{is_of_request};
 ghost use Rattle.journals.specs.inner.Naturals.{naturals};
 ghost use Rattle.journals.specs.Known.{is_among};
 ghost use Rattle.journals.specs.inner.Numbered.{number_of, numbered, numbered_from};
-ghost use Rattle.journals.specs.inner.Places.{looked_at, requests_first};
+ghost use Rattle.journals.specs.inner.Places.{call_requests_first, looked_at, report_requests_first, requests_first};
 ghost use Rattle.journals.specs.inner.Notes.{note_at, may_use, noted, may_call, by_call, may_report, by_report, undone_at, IsFault};
 ghost use Rattle.journals.specs.declared.word.Word.TheVariants.{Call, Report};
 ghost use Rattle.journals.specs.declared.fault.JournalFaultKind.TheVariants.{Request};
@@ -162,8 +162,8 @@ fn use_in_call(
 
 /// How many of the first fields of a call line may be requests or messages; None where all may.
 #[inline(always)]
-fn requests_first(word: CallWord) -> Option<usize>
-    ensures { result ≡ requests_first word }
+fn call_requests_first(word: CallWord) -> Option<usize>
+    ensures { result ≡ call_requests_first word }
 {
     match word {
         CallWord::Wait | CallWord::Test | CallWord::Waitany | CallWord::Waitsome => None,
@@ -193,9 +193,33 @@ fn requests_first(word: CallWord) -> Option<usize>
     }
 }
 
+/// The same of a report.
+#[inline(always)]
+fn report_requests_first(word: ReportWord) -> Option<usize>
+    ensures { result ≡ report_requests_first word }
+{
+    match word {
+        ReportWord::Chose => None,
+        ReportWord::Idup => Some(2),
+        ReportWord::Done | ReportWord::Gone | ReportWord::Kept | ReportWord::Moved => Some(1),
+        _ => Some(0),
+    }
+}
+
+/// The same of a line.
+#[inline(always)]
+fn requests_first(word: Word) -> Option<usize>
+    ensures { result ≡ requests_first word }
+{
+    match word {
+        Word::Call(word) => call_requests_first(word),
+        Word::Report(word) => report_requests_first(word),
+    }
+}
+
 /// How many of the first fields are looked at: none after them is a request or a message.
 #[inline(always)]
-fn looked_at(word: CallWord, count: usize) -> usize
+pub(crate) fn looked_at(word: Word, count: usize) -> usize
     ensures value { result ≡ looked_at (requests_first word) count }
     ensures within { result ≤ count }
 {
@@ -221,7 +245,7 @@ pub(crate) fn note_call(notes: &mut Notes, call: CallLine<'_>) -> Result<(), Lin
         (may_use (may_call call.entry.line) (by_call call.entry.word call.entry.fields.now call.entry.line)
         (note_at notes.old) (numbered (Call call.entry.word) call.entry.fields.now) ≡ false)) }
 {
-    for place in 0..looked_at(call.word, call.fields.len()) {
+    for place in 0..looked_at(Word::Call(call.word), call.fields.len()) {
         if let Some((form, number)) = number_at(Word::Call(call.word), call.fields, place) {
             if is_of_request(form) {
                 use_in_call(notes, call, form, number)?;
@@ -280,7 +304,7 @@ pub(crate) fn note_report(notes: &mut Notes, report: ReportLine<'_>) -> Result<(
         (by_report report.entry.word report.entry.line report.entry.completed)
         (note_at notes.old) (numbered (Report report.entry.word) report.entry.fields.now) ≡ false)) }
 {
-    for place in 0..report.fields.len() {
+    for place in 0..looked_at(Word::Report(report.word), report.fields.len()) {
         if let Some((form, number)) = number_at(Word::Report(report.word), report.fields, place) {
             if is_of_request(form) {
                 use_in_report(notes, report, form, number)?;

@@ -61,36 +61,49 @@ abbrev pub comm_place : Word → Option ℕ
 comm_place (Call word) = call_comm_place word
 comm_place (Report word) = report_comm_place word
 
--- how many of the first fields of a call may be requests or messages; None where all may
-abbrev pub requests_first : CallWord → Option ℕ
-requests_first call.Wait = None
-requests_first call.Test = None
-requests_first call.Waitany = None
-requests_first call.Waitsome = None
-requests_first call.Isendrecv = Some 2
-requests_first call.Imrecv = Some 2
-requests_first call.Isend = Some 1
-requests_first call.Issend = Some 1
-requests_first call.Ibsend = Some 1
-requests_first call.Irsend = Some 1
-requests_first call.Irecv = Some 1
-requests_first call.Mprobe = Some 1
-requests_first call.Improbe = Some 1
-requests_first call.Mrecv = Some 1
-requests_first call.Cancel = Some 1
-requests_first call.RequestFree = Some 1
-requests_first call.Ibarrier = Some 1
-requests_first call.Ibcast = Some 1
-requests_first call.Igather = Some 1
-requests_first call.Iscatter = Some 1
-requests_first call.Ireduce = Some 1
-requests_first call.Iallgather = Some 1
-requests_first call.Ialltoall = Some 1
-requests_first call.Iallreduce = Some 1
-requests_first call.Iscan = Some 1
-requests_first call.Iexscan = Some 1
-requests_first call.CommIdup = Some 1
-requests_first _ = Some 0
+-- how many of the first fields may be requests or messages; None where all may
+abbrev pub call_requests_first : CallWord → Option ℕ
+call_requests_first call.Wait = None
+call_requests_first call.Test = None
+call_requests_first call.Waitany = None
+call_requests_first call.Waitsome = None
+call_requests_first call.Isendrecv = Some 2
+call_requests_first call.Imrecv = Some 2
+call_requests_first call.Isend = Some 1
+call_requests_first call.Issend = Some 1
+call_requests_first call.Ibsend = Some 1
+call_requests_first call.Irsend = Some 1
+call_requests_first call.Irecv = Some 1
+call_requests_first call.Mprobe = Some 1
+call_requests_first call.Improbe = Some 1
+call_requests_first call.Mrecv = Some 1
+call_requests_first call.Cancel = Some 1
+call_requests_first call.RequestFree = Some 1
+call_requests_first call.Ibarrier = Some 1
+call_requests_first call.Ibcast = Some 1
+call_requests_first call.Igather = Some 1
+call_requests_first call.Iscatter = Some 1
+call_requests_first call.Ireduce = Some 1
+call_requests_first call.Iallgather = Some 1
+call_requests_first call.Ialltoall = Some 1
+call_requests_first call.Iallreduce = Some 1
+call_requests_first call.Iscan = Some 1
+call_requests_first call.Iexscan = Some 1
+call_requests_first call.CommIdup = Some 1
+call_requests_first _ = Some 0
+
+abbrev pub report_requests_first : ReportWord → Option ℕ
+report_requests_first report.Chose = None
+report_requests_first report.Idup = Some 2
+report_requests_first report.Done = Some 1
+report_requests_first report.Gone = Some 1
+report_requests_first report.Kept = Some 1
+report_requests_first report.Moved = Some 1
+report_requests_first _ = Some 0
+
+abbrev pub requests_first : Word → Option ℕ
+requests_first (Call word) = call_requests_first word
+requests_first (Report word) = report_requests_first word
 
 -- how many of so many fields are looked at for requests and messages
 abbrev pub looked_at : Option ℕ → ℕ → ℕ

@@ -11,13 +11,13 @@ use Rattle.journals.proofs.notes.note_call.Goals.{in-Some+then-is_of_request+in_
 
 pub returns-clause-ok : goal.returns-clause-ok
 returns-clause-ok c =
-    let at_end : c.loop-place.place ≡ looked_at (requests_first c.args.call.word) (length c.args.call.fields.now) = omega arith in
-    sym c.loop-place.invariant.uses ∙ may_late (may_call c.args.call.line) (by_call c.args.call.word c.args.call.fields.now c.args.call.line) (note_at c.loop-place.notes) c.args.call.word c.args.call.fields.now c.loop-place.place at_end
+    let at_end : c.loop-place.place ≡ looked_at (requests_first (Call c.args.call.word)) (length c.args.call.fields.now) = omega arith in
+    sym c.loop-place.invariant.uses ∙ may_late (may_call c.args.call.line) (by_call c.args.call.word c.args.call.fields.now c.args.call.line) (note_at c.loop-place.notes) (Call c.args.call.word) c.args.call.fields.now c.loop-place.place at_end
 
 pub returns-clause-notes : goal.returns-clause-notes
 returns-clause-notes c = λ other.
-    let at_end : c.loop-place.place ≡ looked_at (requests_first c.args.call.word) (length c.args.call.fields.now) = omega arith in
-    sym (noted_late (may_call c.args.call.line) (by_call c.args.call.word c.args.call.fields.now c.args.call.line) other (note_at c.loop-place.notes other) c.args.call.word c.args.call.fields.now c.loop-place.place at_end) ∙ c.loop-place.invariant.notes other
+    let at_end : c.loop-place.place ≡ looked_at (requests_first (Call c.args.call.word)) (length c.args.call.fields.now) = omega arith in
+    sym (noted_late (may_call c.args.call.line) (by_call c.args.call.word c.args.call.fields.now c.args.call.line) other (note_at c.loop-place.notes other) (Call c.args.call.word) c.args.call.fields.now c.loop-place.place at_end) ∙ c.loop-place.invariant.notes other
 
 pub loop-place-preserved : goal.loop-place-preserved
 loop-place-preserved c =
