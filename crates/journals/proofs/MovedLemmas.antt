@@ -1,5 +1,5 @@
 -- Reports of moved receives that the lines of a journal can't have, as the code finds them.
-use Rattle.std.proofs.Common.{◌≡◌, ℕ, zero, suc, ◌+◌, ◌<◌, Bool, true, false, ◌&&◌, ◌||◌, not, Option, Some, None, option_map, List, [], ◌∷◌, length, drop, slice_get, sym, ap, ◌∙◌, refl, arith, subst}
+use Rattle.std.proofs.Common.{◌≡◌, ℕ, zero, suc, ◌+◌, ◌<◌, Bool, true, false, ◌||◌, not, Option, Some, None, option_map, List, [], ◌∷◌, length, drop, slice_get, sym, ap, ◌∙◌, refl, arith}
 use Rattle.std.specs.List.{list_any}
 use Rattle.std.specs.Option.{option_map_or}
 use Rattle.journals.specs.Lines.{Line}
@@ -16,7 +16,6 @@ use Rattle.journals.specs.declared.known.Known.{Known}
 use Rattle.journals.specs.declared.last.LastCall.{LastCall}
 use Rattle.journals.specs.declared.word.Word.{Word}
 use Rattle.journals.specs.declared.word.Word.TheVariants.{Call, Report}
-use Rattle.journals.specs.declared.word.ReportWord.{ReportWord}
 use Rattle.journals.specs.declared.word.ReportWord.TheVariants as report
 use Rattle.journals.proofs.Tests.{or_false}
 use Rattle.journals.proofs.AdmitLemmas.{completed_as}

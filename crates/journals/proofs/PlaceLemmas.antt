@@ -1,5 +1,5 @@
 -- No field but that at one place names a communicator, and none after the first ones a request or a message.
-use Rattle.std.proofs.Common.{◌≡◌, ◌∙◌, sym, ap, refl, ℕ, zero, suc, ◌+◌, ◌-◌, ◌==◌, ◌≤◌, ◌<◌, min, max, Bool, true, false, ◌&&◌, ◌||◌, not, if◌then◌else◌, List, [], ◌∷◌, length, take, drop, Option, Some, None, unwrap_or, arith, inl, inr, ◌⊎◌, add-one}
+use Rattle.std.proofs.Common.{◌≡◌, ◌∙◌, sym, ap, refl, ℕ, zero, suc, ◌+◌, ◌-◌, ◌==◌, ◌≤◌, ◌<◌, max, Bool, true, false, ◌||◌, if◌then◌else◌, List, [], ◌∷◌, length, take, drop, Option, Some, None, unwrap_or, arith, inl, inr, ◌⊎◌, add-one}
 use Rattle.std.specs.List.{list_any, filter_map, zip}
 use Rattle.std.proofs.lemmas.Bool.{cases_lt, or_parts}
 use Rattle.journals.specs.Words.{forms_of}

@@ -4,7 +4,6 @@ use Rattle.journals.specs.Text.{whole_lines}
 use Rattle.journals.specs.Header.{Heading}
 use Rattle.journals.specs.Journal.{Fault, journal_of_lines}
 use Rattle.std.specs.Io.KnownBytes.{Consumes}
-use Rattle.journals.specs.declared.fault.JournalFaultKind.TheVariants as kind
 use Rattle.journals.specs.declared.fault.JournalFault.{JournalFault}
 use Rattle.journals.specs.declared.header.Header.{Header}
 use Rattle.journals.specs.declared.journal.Journal.{Journal as JournalRead}

@@ -32,9 +32,7 @@ use crate::line::LineFault;
 use crate::lines::{Lines, Taken};
 use crate::note::Note;
 use crate::note_table::Notes;
-use crate::notes::{
-    CallLine, ReportLine, looked_at, note_call, note_report, number_at, undo_all,
-};
+use crate::notes::{CallLine, ReportLine, looked_at, note_call, note_report, number_at, undo_all};
 use crate::word::{CallWord, ReportWord, Word};
 use std::alloc::{AllocError, Global};
 use std::collections::HashMap;
@@ -226,9 +224,7 @@ impl Known {
             Word::Call(CallWord::Wait) => self.admit_call(lines, taken.line, CallWord::Wait),
             Word::Call(CallWord::Recv) => self.admit_call(lines, taken.line, CallWord::Recv),
             Word::Call(word) => self.admit_any(lines, taken.line, word),
-            Word::Report(ReportWord::Got) => self.admit_report(lines, taken.line, ReportWord::Got),
-            Word::Report(ReportWord::Done) => self.admit_report(lines, taken.line, ReportWord::Done),
-            Word::Report(word) => self.admit_any_report(lines, taken.line, word),
+            Word::Report(word) => self.admit_report(lines, taken.line, word),
         }
     }
 
@@ -246,22 +242,6 @@ impl Known {
         ensures knows { OnOk result (Knows lines.now self.new) }
     {
         self.admit_call(lines, line, word)
-    }
-
-    /// Takes a report of any word.
-    #[inline(never)]
-    fn admit_any_report(&mut self, lines: &Lines, line: u32, word: ReportWord) -> Result<(), LineFault>
-        requires next { IsNext (ranks_in self.old.marks) lines.now line
-            (record { word = Report word; fields = fields_at lines.now line }) }
-        requires knows { Knows (take line lines.now) self.old }
-        requires goes_on { self.old.is_over ≡ false }
-        requires some { 1 ≤ ranks_in self.old.marks }
-        ensures owner { owner_of self.new ≡ owner_of self.old }
-        ensures answer { Answers (owner_of self.old) (take line lines.now)
-            (record { word = Report word; fields = fields_at lines.now line }) result }
-        ensures knows { OnOk result (Knows lines.now self.new) }
-    {
-        self.admit_report(lines, line, word)
     }
 
     /// Takes a call line; of a word that is known where this is called by what is built for it.
@@ -290,8 +270,7 @@ impl Known {
         Ok(())
     }
 
-    /// Takes a report, likewise.
-    #[inline(always)]
+    #[inline(never)]
     fn admit_report(&mut self, lines: &Lines, line: u32, word: ReportWord) -> Result<(), LineFault>
         requires next { IsNext (ranks_in self.old.marks) lines.now line
             (record { word = Report word; fields = fields_at lines.now line }) }

@@ -1,5 +1,5 @@
 -- One line more reports no moved receive that the lines can't have, or the first that does.
-use Rattle.std.proofs.Common.{◌≡◌, ◌∙◌, ◌<◌, arith, ap, length, sym}
+use Rattle.std.proofs.Common.{◌∙◌, ◌<◌, arith, ap, length, sym}
 use Rattle.journals.specs.Journal.{unless_place}
 use Rattle.journals.proofs.MovedLemmas.{first_here, first_later}
 use Rattle.journals.proofs.journal.checked.Goals as goal

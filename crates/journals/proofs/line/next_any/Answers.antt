@@ -1,6 +1,5 @@
 -- The first text spells a word, or none.
-use Rattle.std.proofs.Common.{◌≡◌}
-use Rattle.journals.proofs.PushLemmas.{no_text, some_text}
+use Rattle.journals.proofs.PushLemmas.{no_text}
 use Rattle.journals.proofs.WordLemmas.{no_first, word_read}
 use Rattle.journals.proofs.line.next_any.Goals as goal
 

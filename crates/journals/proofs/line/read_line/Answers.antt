@@ -1,6 +1,5 @@
 -- A word, and what follows it.
-use Rattle.std.proofs.Common.{◌≡◌, ◌∷◌, drop, ap, sym, ◌∙◌}
-use Rattle.mpicall.specs.Lines.{split_fields}
+use Rattle.std.proofs.Common.{drop, ap, sym, ◌∙◌}
 use Rattle.journals.proofs.LineLemmas.{after_short}
 use Rattle.journals.proofs.PushLemmas.{stays, unknown, stopped_line, other_line}
 use Rattle.journals.proofs.WordLemmas.{no_word_read}
