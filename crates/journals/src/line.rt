@@ -1,8 +1,9 @@
 //! What a line says: its word and its fields.
 //!
 //! A line's fields are read one after another by the forms of its word, straight to the end of the list of all
-//! fields; those of words that come most often by code that is built for each. Where one doesn't fit, they are read again, part by part: how many there are and whether there is a site
-//! decide whether the word can have so many, and which fault is the first.
+//! fields; those of words that come most often by code that is built for each. Where one doesn't fit, they are read
+//! again, part by part: how many there are and whether there is a site decide whether the word can have so many, and
+//! which fault is the first.
 
 ghost use Rattle.std.specs.Prelude.{◌≡◌, ◌==◌, ◌≤◌, ◌<◌, ◌-◌, ◌&&◌, [], ◌∷◌, Some, true, if◌then◌else◌, length, MatchOption};
 ghost use Rattle.std.specs.Option.{option_copied};
