@@ -75,10 +75,12 @@ struct Paths<'f, 'a> {
     files: &'f [&'a str],
 }
 
-/// The bytes of some files together; 0 where those of one aren't known.
-fn size_of<P: Opener>(opener: &P, paths: &[&str]) -> u64 {
-    let mut size = 0u64;
-    for path in paths {
+/// The bytes of a run's files together; 0 where those of one aren't known.
+fn size_of<P: Opener>(opener: &P, paths: &Paths<'_, '_>) -> u64 {
+    let Some(mut size) = opener.size(paths.head) else {
+        return 0;
+    };
+    for path in paths.files {
         let Some(more) = opener.size(path) else {
             return 0;
         };
@@ -168,7 +170,7 @@ where
     let Some((tracker, viewer)) = Viewer::open(alloc, manner, &gauge, rt) else {
         return check_paths(alloc, &paths, options, &measured, &unshown::<R>(), rt, out);
     };
-    gauge.set_size(size_of(opener, files));
+    gauge.set_size(size_of(opener, &paths));
     let shown = Shown(Some(&tracker));
     let answer = check_viewed(
         alloc, &paths, options, &measured, &shown, rt, out, viewer, screen,

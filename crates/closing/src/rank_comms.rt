@@ -240,6 +240,7 @@ impl RankComms {
     }
 
     /// Takes the communicator that the last call is reported to have made. That of a group is had already.
+    #[inline(never)]
     fn take_made(
         &mut self,
         keys: &mut Keys,
@@ -288,6 +289,7 @@ impl RankComms {
     }
 
     /// Takes the communicator that the nonblocking duplicate of a request is reported to have made.
+    #[inline(never)]
     fn take_duplicated(
         &mut self,
         keys: &mut Keys,
@@ -311,6 +313,7 @@ impl RankComms {
     }
 
     /// Takes a communicator that came by what no call line says.
+    #[inline(never)]
     fn take_apart(
         &mut self,
         keys: &mut Keys,
@@ -330,7 +333,8 @@ impl RankComms {
         Ok(Some(key))
     }
 
-    /// Takes the next report, and answers the key of the communicator that the rank got by it.
+    /// Takes the next report, and answers the key of the communicator that the rank got by it. Most reports bring none.
+    #[inline(always)]
     pub(crate) fn take_report(
         &mut self,
         keys: &mut Keys,

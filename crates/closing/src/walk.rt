@@ -419,7 +419,7 @@ impl Walk {
 
     /// Takes the report at a place, if there is one, and answers the key of the communicator that the call before
     /// it made.
-    #[inline(never)]
+    #[inline(always)]
     #[tactic(auto, using(crate::proofs::PlacedLemmas::comms_reported))]
     fn take_report(
         &mut self,

@@ -144,6 +144,7 @@ fn offer_all(analyser: &mut Analyser, rank: u16, records: &[Record]) -> Result<(
 
 impl Lists {
     /// Hands the records of a rank's last entry on.
+    #[inline(always)]
     #[tactic(auto, using(crate::proofs::TurnLemmas::turn_steps))]
     fn hand_on(&mut self, rank: u16, analyser: &mut Analyser) -> Result<(), JudgeFault>
         requires { rank < length analyser.old.recording }
