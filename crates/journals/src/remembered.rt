@@ -2,8 +2,8 @@
 //! last few.
 //!
 //! A line that is sought is compared with a remembered one as a whole, and it is known where the line that this one
-//! spells is held. So which lines are remembered and sought is a matter of time alone. Where fewer than half of
-//! the lines are found, none is sought for a while.
+//! spells is held. So which lines are remembered and sought is a matter of time alone. Those that number a request or
+//! complete one don't come again. Where fewer than half of the others are found, none is sought for a while.
 
 ghost use Rattle.std.specs.Prelude.{◌≡◌, ◌<◌, List, IfSome};
 ghost use Rattle.journals.specs.declared.field.Field.{Field};
@@ -53,6 +53,12 @@ fn place_of(line: &[u8]) -> usize
     mark as usize % MOST_KNOWN
 }
 
+/// Whether a line may come again: most nonblocking calls, waits and reports of requests don't.
+#[inline(always)]
+fn may_come_again(line: &[u8]) -> bool {
+    !matches!(line, [b'i' | b'w', ..] | [b'=', b'd', ..])
+}
+
 impl Remembered {
     pub(crate) fn new() -> Remembered
         ensures { (fields : List Field) → AreHeld fields result.known }
@@ -86,6 +92,9 @@ impl Remembered {
         ensures held { (fields : List Field) → AreHeld fields self.old.known
             → IfSome result (λ packed. IsHeldLine fields ranks line.now packed) }
     {
+        if !may_come_again(line) {
+            return None;
+        }
         if self.missed >= MOST_MISSED {
             self.missed = if self.missed < MOST_PASSED {
                 self.missed + 1
@@ -109,7 +118,7 @@ impl Remembered {
         ensures { (fields : List Field) → AreHeld fields self.old.known
             → IsHeldLine fields ranks line.now packed → AreHeld fields self.new.known }
     {
-        if line.len() > MOST_KNOWN_BYTES || self.missed >= MOST_MISSED {
+        if line.len() > MOST_KNOWN_BYTES || self.missed >= MOST_MISSED || !may_come_again(line) {
             return;
         }
         let mut bytes = [0; MOST_KNOWN_BYTES];
