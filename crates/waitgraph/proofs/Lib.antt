@@ -39,3 +39,4 @@ pub mod PendingGraphLemmas
 pub mod PendingWalkLemmas
 pub mod WithoutPendingLemmas
 pub mod PendingVerdictLemmas
+pub mod AskedLemmas

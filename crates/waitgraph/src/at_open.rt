@@ -6,7 +6,7 @@ ghost use Rattle.std.specs.Option.{option_map_or};
 ghost use Rattle.waitgraph.specs.Pending.{view_of};
 ghost use Rattle.waitgraph.specs.PendingNeeds.{item_awaits, item_blocks, is_at_open};
 ghost use Rattle.waitgraph.specs.inner.Causes.{Walks};
-ghost use Rattle.waitgraph.specs.inner.Scenes.{comes, staying, known_in, HasOpened, HasSpares, items_in, awaited_by, present_by, blocks_by, held_up_in, hop_from_awaited, walks_by};
+ghost use Rattle.waitgraph.specs.inner.Scenes.{comes, staying, known_in, HasOpened, HasSpares, HasSparesIfAsked, items_in, awaited_by, present_by, blocks_by, held_up_in, hop_from_awaited, walks_by};
 ghost use Rattle.waitgraph.specs.declared.awaited.Awaited.TheVariants as awaited;
 
 use crate::awaited::Awaited;
@@ -93,7 +93,7 @@ fn items_await(
     items: &[Item],
 ) -> Result<Vec<Awaited>, AllocError>
     requires is_rank { rank < length scene.now.world.now.pairs.recording }
-    requires spares { HasSpares scene.now }
+    requires spares { (length items.now ≡ 0 → ⊥) → HasSpares scene.now }
     requires opened { HasOpened scene.now }
     ensures { IfOk result (λ awaits. awaits.items ≡ flat_map (item_awaits (comes scene.now marks.now) scene.now.world.now.reading scene.now.world.now.pairs.groups scene.now.world.now.pairs.recording scene.now.stands.now (staying marks.now) rank) items.now) }
 {
@@ -114,7 +114,7 @@ fn items_block(
     items: &[Item],
 ) -> Result<Vec<Awaited>, AllocError>
     requires is_rank { rank < length scene.now.world.now.pairs.recording }
-    requires spares { HasSpares scene.now }
+    requires spares { (length items.now ≡ 0 → ⊥) → HasSpares scene.now }
     requires opened { HasOpened scene.now }
     ensures { IfOk result (λ awaits. awaits.items ≡ flat_map (item_blocks (comes scene.now marks.now) scene.now.world.now.reading scene.now.world.now.pairs.groups scene.now.world.now.pairs.recording scene.now.sinks.now (staying marks.now) rank) items.now) }
 {
@@ -144,7 +144,7 @@ fn awaited_by(
     rank: u16,
 ) -> Result<Vec<Awaited>, AllocError>
     requires is_rank { rank < length scene.now.world.now.pairs.recording }
-    requires spares { HasSpares scene.now }
+    requires spares { HasSparesIfAsked scene.now }
     requires opened { HasOpened scene.now }
     ensures { IfOk result (λ awaits. awaits.items ≡ awaited_by scene.now marks.now rank) }
 {
@@ -161,7 +161,7 @@ pub(crate) fn at_opens(
     scene: &Scene<'_>,
     marks: &[bool],
 ) -> Result<Vec<Vec<Awaited>>, AllocError>
-    requires spares { HasSpares scene.now }
+    requires spares { HasSparesIfAsked scene.now }
     requires opened { HasOpened scene.now }
     ensures { IfOk result (λ awaits. map (λ one. one.items) awaits.items ≡ map (awaited_by scene.now marks.now) (range_with_len 0 (length scene.now.world.now.pairs.recording))) }
 {
@@ -196,7 +196,7 @@ fn blocks(
     rank: u16,
 ) -> Result<Vec<Awaited>, AllocError>
     requires is_rank { rank < length scene.now.world.now.pairs.recording }
-    requires spares { HasSpares scene.now }
+    requires spares { HasSparesIfAsked scene.now }
     requires opened { HasOpened scene.now }
     ensures { IfOk result (λ blocks. blocks.items ≡ blocks_by scene.now marks.now rank) }
 {
@@ -215,7 +215,7 @@ fn held_up(
     rank: u16,
 ) -> Result<Option<Awaited>, AllocError>
     requires is_rank { rank < length scene.now.world.now.pairs.recording }
-    requires spares { HasSpares scene.now }
+    requires spares { HasSparesIfAsked scene.now }
     requires opened { HasOpened scene.now }
     ensures { IfOk result (λ first. first ≡ held_up_in scene.now marks.now rank) }
 {
@@ -250,7 +250,7 @@ fn hop_of(
     rank: u16,
 ) -> Result<Option<NextHop>, AllocError>
     requires is_rank { rank < length scene.now.world.now.pairs.recording }
-    requires spares { HasSpares scene.now }
+    requires spares { HasSparesIfAsked scene.now }
     requires opened { HasOpened scene.now }
     ensures { IfOk result (λ hop. hop ≡ option_map (hop_from_awaited scene.now.world.now.pairs.recording) (held_up_in scene.now marks.now rank)) }
 {
@@ -266,7 +266,7 @@ pub(crate) fn walks(
     scene: &Scene<'_>,
     marks: &[bool],
 ) -> Result<Vec<Option<NextHop>>, AllocError>
-    requires spares { HasSpares scene.now }
+    requires spares { HasSparesIfAsked scene.now }
     requires opened { HasOpened scene.now }
     ensures { IfOk result (λ walks. walks.items ≡ walks_by scene.now marks.now) }
 {

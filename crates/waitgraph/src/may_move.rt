@@ -12,7 +12,7 @@ ghost use Rattle.waitgraph.specs.Held.{is_missing};
 ghost use Rattle.waitgraph.specs.Stuck.{rank_needed};
 ghost use Rattle.waitgraph.specs.Pending.{takes, goes_to, may_take, sink_for, operation_needs, request_needs, call_needs, ways_of, sources_of, pending_waits, waited_at, is_over, view_of};
 ghost use Rattle.waitgraph.specs.inner.Buckets.{bucket};
-ghost use Rattle.waitgraph.specs.inner.Scenes.{staying, blocks, comes, needs_of_send, spare_needs, source_needs, passes_spare, member_passes, member_may_send, index_passes, item_passes, known_in, HasSpares};
+ghost use Rattle.waitgraph.specs.inner.Scenes.{staying, blocks, comes, needs_of_send, spare_needs, source_needs, passes_spare, member_passes, member_may_send, index_passes, item_passes, known_in, HasSpares, HasSparesIfAsked};
 
 use crate::pending::{Item, PendingCall, Sink, Spare, Wanted};
 use crate::sink_table::SinkTable;
@@ -402,23 +402,27 @@ fn one_comes(scene: &Scene<'_>, marks: &[bool], rank: u16, items: &[Item]) -> bo
         .any(|item| item_comes(scene, marks, rank, item))
 }
 
-/// Whether so many of the items come that the pending call is over.
+/// Whether so many of the items come that the pending call is over; one without items is over.
 fn pending_comes(scene: &Scene<'_>, marks: &[bool], rank: u16, call: &PendingCall) -> bool
     requires is_rank { rank < length scene.now.world.now.pairs.recording }
-    requires spares { HasSpares scene.now }
+    requires spares { (length (view_of call.now).items ≡ 0 → ⊥) → HasSpares scene.now }
     ensures { result ≡ is_over (comes scene.now marks.now) (pending_waits scene.now.world.now.reading scene.now.world.now.pairs.groups scene.now.world.now.pairs.recording scene.now.sinks.now rank (view_of call.now)) }
 {
+    let items = call.items();
+    if items.is_empty() {
+        return call.is_for_all();
+    }
     if call.is_for_all() {
-        all_come(scene, marks, rank, call.items())
+        all_come(scene, marks, rank, items)
     } else {
-        one_comes(scene, marks, rank, call.items())
+        one_comes(scene, marks, rank, items)
     }
 }
 
 /// Whether the rank may move on though the ranks without a mark stay.
 pub(crate) fn may_move(scene: &Scene<'_>, marks: &[bool], rank: u16) -> bool
     requires is_rank { rank < length scene.now.world.now.pairs.recording }
-    requires spares { HasSpares scene.now }
+    requires spares { HasSparesIfAsked scene.now }
     ensures { result ≡ is_over (comes scene.now marks.now) (waited_at scene.now.world.now.reading scene.now.world.now.pairs.groups scene.now.world.now.pairs.recording (known_in scene.now) rank (slice_index scene.now.stands.now rank)) }
 {
     let place = stand_of(scene.stands, rank);

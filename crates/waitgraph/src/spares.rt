@@ -1,11 +1,12 @@
 //! Sends that no receive has, by the ranks to which they go.
 
-ghost use Rattle.std.specs.Prelude.{◌≡◌, ◌≢◌, ◌<◌, [], ◌∷◌, ◌++◌, ℕ, length, option_to_list, IfOk, OnOk};
+ghost use Rattle.std.specs.Prelude.{◌≡◌, ◌≢◌, ◌<◌, true, [], ◌∷◌, ◌++◌, ℕ, length, option_to_list, IfOk, OnOk};
 ghost use Rattle.callstore.specs.Recordings.{calls_of};
 ghost use Rattle.waitgraph.specs.Pending.{spare_at, spare_to, spares_by, spares_to};
 ghost use Rattle.waitgraph.specs.inner.Buckets.{bucket};
+ghost use Rattle.waitgraph.specs.inner.Scenes.{is_asked};
 
-use crate::pending::Spare;
+use crate::pending::{PendingCall, Spare};
 use callstore::envelope::{Envelope, Half, envelope_by, rank_of_half};
 use pairing::pairs::Pairs;
 use std::alloc::{AllocError, Global};
@@ -100,7 +101,7 @@ fn ranks(pairs: &Pairs) -> u16
 }
 
 /// The spare sends to each rank.
-pub(crate) fn spares(alloc: Global, pairs: &Pairs) -> Result<Vec<Vec<Spare>>, AllocError>
+fn spares(alloc: Global, pairs: &Pairs) -> Result<Vec<Vec<Spare>>, AllocError>
     ensures { IfOk result (λ spares. (rank : ℕ) → rank < length pairs.now.recording → bucket spares.items rank ≡ spares_to pairs.now.groups pairs.now.recording rank) }
 {
     let mut spares = no_spares(alloc, ranks(pairs))?;
@@ -108,4 +109,26 @@ pub(crate) fn spares(alloc: Global, pairs: &Pairs) -> Result<Vec<Vec<Spare>>, Al
         add_of_rank(&mut spares, pairs, sender)?;
     }
     Ok(spares)
+}
+
+/// Whether a pending call waits for something.
+fn is_asked(pending: &[PendingCall]) -> bool
+    ensures { result ≡ is_asked pending.now }
+{
+    pending.iter().any(|call| !call.items().is_empty())
+}
+
+/// The spare sends to each rank, where a pending call waits for something; no others are looked for.
+pub(crate) fn spares_if_asked(
+    alloc: Global,
+    pairs: &Pairs,
+    pending: &[PendingCall],
+) -> Result<Vec<Vec<Spare>>, AllocError>
+    ensures { IfOk result (λ spares. is_asked pending.now ≡ true → (rank : ℕ) → rank < length pairs.now.recording → bucket spares.items rank ≡ spares_to pairs.now.groups pairs.now.recording rank) }
+{
+    if is_asked(pending) {
+        spares(alloc, pairs)
+    } else {
+        Ok(Vec::new(alloc))
+    }
 }

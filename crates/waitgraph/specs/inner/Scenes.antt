@@ -29,6 +29,7 @@ use Rattle.waitgraph.specs.declared.next_hop.NextHop.{NextHop}
 use Rattle.waitgraph.specs.declared.next_hop.NextHop.TheVariants.{To, Lacks, Nobody}
 use Rattle.waitgraph.specs.inner.Causes.{Walks}
 use Rattle.waitgraph.specs.declared.pending.Item.{Item}
+use Rattle.waitgraph.specs.declared.pending.PendingCall.{PendingCall}
 use Rattle.waitgraph.specs.declared.pending.Spare.{Spare}
 use Rattle.waitgraph.specs.declared.pending.Wanted.{Wanted}
 
@@ -55,8 +56,16 @@ needs_of_send scene at call =
 abbrev pub spares_in : Scene → Rank → List Spare
 spares_in scene rank = option_map_or vec_items (slice_get scene.spares.now rank) []
 
+-- a pending call waits for something
+abbrev pub is_asked : List PendingCall → Bool
+is_asked pending = list_any (λ call. not (length (view_of call).items == 0)) pending
+
 abbrev pub HasSpares : Scene → Type 0
 HasSpares scene = (rank : ℕ) → rank < length scene.world.now.pairs.recording → spares_in scene rank ≡ spares_to scene.world.now.pairs.groups scene.world.now.pairs.recording rank
+
+-- they are there where a pending call waits for something
+abbrev pub HasSparesIfAsked : Scene → Type 0
+HasSparesIfAsked scene = is_asked scene.pending.now ≡ true → HasSpares scene
 
 -- whether each rank's list was left open
 abbrev pub HasOpened : Scene → Type 0
@@ -95,11 +104,11 @@ item_passes scene marks rank item =
     (part_of scene.world.now.reading scene.world.now.pairs.groups scene.world.now.pairs.recording scene.sinks.now rank item).needs
 
 -- what is seen is so: the stands are those of the recording, which lists were left open, and the spare
--- sends to each rank are there
+-- sends to each rank are there if some pending call waits for something
 pub record IsScene (scene : Scene) : Type 0 where
   pub stands : scene.stands.now ≡ stands_of scene.world.now.reading scene.world.now.pairs.groups scene.world.now.pairs.recording
   pub opened : HasOpened scene
-  pub spares : HasSpares scene
+  pub spares : HasSparesIfAsked scene
 
 -- who may move, who isn't held, and who is
 abbrev pub frees_in : Scene → SetRule

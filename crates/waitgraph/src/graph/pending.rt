@@ -14,7 +14,7 @@ ghost use Rattle.waitgraph.specs.PendingVerdicts.{GraphsHaveTheVerdict};
 ghost use Rattle.waitgraph.specs.inner.Causes.{causes_in};
 ghost use Rattle.waitgraph.specs.inner.Loose.{set_of};
 ghost use Rattle.waitgraph.specs.inner.Stuck.{stuck_at};
-ghost use Rattle.waitgraph.specs.inner.Scenes.{IsScene, known_in, walks_by, HasOpened, HasSpares};
+ghost use Rattle.waitgraph.specs.inner.Scenes.{IsScene, known_in, walks_by, HasOpened, HasSparesIfAsked};
 
 use crate::at_open::{at_opens, walks};
 use crate::cause::Cause;
@@ -24,7 +24,7 @@ use crate::loose::is_marked;
 use crate::may_move::{Scene, ranks_are_few, sink_for};
 use crate::pending::{PendingCall, Sink};
 use crate::sink_table::SinkTable;
-use crate::spares::spares;
+use crate::spares::spares_if_asked;
 use crate::standing::{is_some, left_open_in};
 use crate::walk::causes_in;
 use findings::finding::{Finding, findings};
@@ -75,7 +75,7 @@ fn findings_by(
 
 /// Why the ranks without a mark are held.
 fn causes_by(alloc: Global, scene: &Scene<'_>, marks: &[bool]) -> Result<Vec<Cause>, AllocError>
-    requires spares { HasSpares scene.now }
+    requires spares { HasSparesIfAsked scene.now }
     requires opened { HasOpened scene.now }
     ensures { IfOk result (λ causes. map cause_view causes.items ≡ causes_in (walks_by scene.now marks.now)) }
 {
@@ -149,7 +149,7 @@ fn graph_with(
     ensures { IfOk result (IsGraphWith world.now.reading world.now.pairs.groups world.now.pairs.recording (record { pending = map view_of pending.now; sinks = sinks.now })) }
 {
     let opened = left_open_in(alloc, &world.pairs)?;
-    let spares = spares(alloc, &world.pairs)?;
+    let spares = spares_if_asked(alloc, &world.pairs, pending)?;
     let scene = Scene {
         world,
         stands,

@@ -3,6 +3,7 @@ use Rattle.std.specs.Prelude.{option_map}
 use Rattle.pairing.specs.LeftOpen.{leaves_open}
 use Rattle.pairing.specs.Seen.{call_seen}
 use Rattle.waitgraph.specs.Pending.{view_of}
+use Rattle.waitgraph.proofs.AskedLemmas.{call_asked}
 use Rattle.waitgraph.proofs.MovingLemmas.{at_no_call, at_call, at_open, pending_there, no_pending}
 use Rattle.waitgraph.proofs.may_move.may_move.Goals as goal
 
@@ -31,3 +32,9 @@ returns-in-None c =
     (sym (c.leaves_open.ensures ∙ ap leaves_open c.call.ensures) ∙ c.if-not-leaves_open.false)
     (no_pending c.args.scene.now c.args.marks.now c.args.rank c.from.result c.from.ensures c.in-None.ensures.lookup.3)
     refl
+
+pub pending_comes-requires-clause-spares : goal.pending_comes-requires-clause-spares
+pending_comes-requires-clause-spares c some =
+    c.requires.spares (call_asked c.args.scene.now c.args.rank (view_of c.in-Some-get.pending.now)
+    (pending_there c.args.scene.now c.args.marks.now c.args.rank c.from.result c.in-Some-get.pending.now c.from.ensures c.in-Some-get.ensures.lookup.3)
+    some)
