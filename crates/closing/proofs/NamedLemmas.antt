@@ -7,10 +7,13 @@ use Rattle.std.proofs.lemmas.List.Folds.{list_any-append}
 use Rattle.std.proofs.lemmas.Option.{slice_get_past, slice_get_within}
 use Rattle.std.proofs.lemmas.Bool.{cases_lt, cases_order}
 use Rattle.mpicall.specs.Word.{or_else}
+use Rattle.journals.specs.declared.field.Field.{Field}
+use Rattle.journals.specs.declared.word.ReportWord.{ReportWord}
+use Rattle.journals.specs.declared.word.ReportWord.TheVariants as report
 use Rattle.closing.specs.Called.{Called, MakesOfGroup}
 use Rattle.closing.specs.Keys.{Key, is_key_among, same_key}
 use Rattle.closing.specs.RankComms.{RankComms, key_next, with_some}
-use Rattle.closing.specs.inner.Holds.{IsGot, key_on}
+use Rattle.closing.specs.inner.Holds.{IsGot, brings, key_on, report_taken}
 use Rattle.closing.specs.inner.Surveyed.{HaveFlags, as_list, with_name}
 use Rattle.closing.specs.Table.{Table}
 use Rattle.closing.specs.inner.Table.{Grows, HasKey, IsTable, IsPlaceOf, keys_in}
@@ -165,6 +168,20 @@ room_step flags now place few e =
     (replicate-append-replicate (place - length flags) 1 false ∙ ap (λ (n : ℕ). replicate n false) (omega arith))
 
 -- ---- What was got ----
+
+-- a report of another word brings nothing
+pub none_brought : (comms : RankComms) (word : ReportWord) (fields : List Field) → brings word ≡ false → report_taken comms word fields ≡ comms
+none_brought comms report.Comm fields e = cc
+none_brought comms report.Idup fields e = cc
+none_brought comms report.Apart fields e = cc
+none_brought comms report.Got fields e = refl
+none_brought comms report.Done fields e = refl
+none_brought comms report.Chose fields e = refl
+none_brought comms report.Gone fields e = refl
+none_brought comms report.Kept fields e = refl
+none_brought comms report.Moved fields e = refl
+none_brought comms report.NoComm fields e = refl
+none_brought comms report.Failed fields e = refl
 
 pub got_grow : (a b : Table) (places : List ℕ) (keys : List Key) → Grows a b → AllZip (HasKey a) places keys → AllZip (HasKey b) places keys
 got_grow a b places keys grows all = zip_grows (HasKey a) (HasKey b) (λ n k h. grows.keys n k h) places keys all

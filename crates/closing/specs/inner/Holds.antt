@@ -1,5 +1,5 @@
 -- What a rank has, as it is kept: by places of keys and of groups.
-use Rattle.std.specs.Prelude.{◌≡◌, ℕ, ◌==◌, nat_eq, Option, Some, None, unwrap_or, option_map, option_and_then, List, [], ◌∷◌, ◌++◌, slice_get}
+use Rattle.std.specs.Prelude.{◌≡◌, ℕ, ◌==◌, nat_eq, Bool, true, false, Option, Some, None, unwrap_or, option_map, option_and_then, List, [], ◌∷◌, ◌++◌, slice_get}
 use Rattle.std.specs.List.{AllZip, count_by}
 use Rattle.std.specs.HashMap.{HashMap, get}
 use Rattle.journals.specs.Lines.{Line}
@@ -61,6 +61,13 @@ reported_line word fields = record { word = Report word; fields = fields }
 -- what the rank has after a communicator of what no call line says
 unfoldable pub apart_taken : RankComms → ℕ → List ℕ → RankComms
 apart_taken comms number group = with_apart comms number group
+
+-- a report with the word may bring the rank a communicator
+abbrev pub brings : ReportWord → Bool
+brings report.Comm = true
+brings report.Idup = true
+brings report.Apart = true
+brings word = false
 
 -- what the rank has after a report, by its fields
 abbrev pub report_taken : RankComms → ReportWord → List Field → RankComms

@@ -1,10 +1,19 @@
 -- A report may bring the rank a communicator.
-use Rattle.std.proofs.Common.{◌++◌, refl}
+use Rattle.std.proofs.Common.{◌++◌, ◌∙◌, refl, subst, sym}
+use Rattle.closing.specs.RankComms.{RankComms}
 use Rattle.closing.specs.inner.Holds.{report_taken}
+use Rattle.closing.specs.inner.Surveyed.{Keeps}
 use Rattle.closing.specs.declared.survey.Survey.{Survey}
-use Rattle.closing.proofs.NamedLemmas.{got_by, got_grow}
+use Rattle.closing.proofs.NamedLemmas.{got_by, got_grow, none_brought}
 use Rattle.closing.proofs.SurveyLemmas.{got_takes}
+use Rattle.closing.proofs.TableLemmas.{grows_same}
 use Rattle.closing.proofs.survey.Survey.take_report.Goals as goal
+
+pub returns-then-not-brings-clause-takes : goal.returns-then-not-brings-clause-takes
+returns-then-not-brings-clause-takes c before names it is =
+    let a = c.args.self.now in
+    let same = none_brought it c.args.word c.args.fields.now (sym c.brings.ensures ∙ c.if-not-brings.true) in
+    subst (λ (after : RankComms). Keeps before names after a a c.args.comms.now) (sym same) (record { is = is; grows = grows_same a.keys is.has_comms.table_is })
 
 pub returns-clause-takes : goal.returns-clause-takes
 returns-clause-takes c before names it is =
