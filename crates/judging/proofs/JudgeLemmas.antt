@@ -11,6 +11,7 @@ use Rattle.waitgraph.specs.PendingGraphs.{findings_by}
 use Rattle.waitgraph.specs.PendingStays.{FitsSinks}
 use Rattle.waitgraph.specs.declared.awaited.Awaited.{Awaited}
 use Rattle.waitgraph.specs.declared.verdict.Verdict.{Verdict}
+use Rattle.waitgraph.specs.declared.verdict.Verdict.TheVariants.{Free}
 use Rattle.closing.specs.Entries.{Run, is_window}
 use Rattle.closing.specs.Entry.{Choice}
 use Rattle.closing.specs.Journals.{run_of}
@@ -18,7 +19,9 @@ use Rattle.closing.specs.Recording.{recording_of, calls_of}
 use Rattle.closing.specs.Recordings.{RecordingView}
 use Rattle.closing.specs.Left.{left_of}
 use Rattle.closing.specs.declared.choice.Choice.{Choice as ChoiceMade}
+use Rattle.lawful.specs.Free.{IsNoneLeftOpen, IsWhole}
 use Rattle.lawful.specs.Laws.{IsRead}
+use Rattle.lawful.proofs.FreeLemmas.{what_is_free_is_whole}
 use Rattle.report.specs.declared.judged.LineAt.{LineAt}
 use Rattle.report.specs.declared.write.Format.{Format}
 use Rattle.report.specs.declared.write.Format.TheVariants.{Text, Json}
@@ -36,6 +39,7 @@ use Rattle.judging.specs.inner.Reported.{IsLined, IsReportedOf, IsRunOf, IsLate}
 use Rattle.judging.specs.inner.Tables.{HasAllLines}
 use Rattle.judging.specs.inner.Turns.{HasAll, IsDone, IsFresh}
 use Rattle.judging.specs.inner.Unwritten.{IsOfRecording}
+use Rattle.judging.proofs.FreeLemmas.{none_left_open}
 use Rattle.judging.proofs.HeadOf.{groups_there}
 use Rattle.judging.proofs.SinkFitLemmas.{sinks_fit}
 use Rattle.judging.proofs.TableLemmas.{numbered}
@@ -77,8 +81,22 @@ module _ (known : Known) (manner : Manner) (begun : RecordingView) (run : IsRunO
       names = of.lines.names;
       of_run = of_run;
       of_none_refused = run.none_refused;
+      free_is_whole = free_is_whole;
     }
       where
+        free_is_whole : (first : List ℕ) (texts : ℕ → Option (List ℕ)) (hold : Run) → AreKnown known (length hold) first texts → run_of first texts ≡ Ok hold → verdict ≡ Free →
+            IsWhole hold (recording_of hold (judged_choice manner.choice))
+        free_is_whole first texts hold are is free =
+            let same : begun.run ≡ hold = run.same first texts hold are is in
+            let read : IsRead begun.run = record { first = first; texts = texts; is_read = is ∙ ap (λ (r : Run). Ok r) (sym same) } in
+            let all = has fresh read in
+            let lists_are : analysed.recording ≡ map calls_of (recording_of hold (judged_choice manner.choice)).lists =
+            all.recording ∙ ap (λ (c : Choice). map calls_of (recording_of it.run c).lists) (all.choice ∙ choice)
+            ∙ ap (λ (r : Run). map calls_of (recording_of r (judged_choice manner.choice)).lists) (all.run ∙ same) in
+            what_is_free_is_whole hold (judged_choice manner.choice) (record { first = first; texts = texts; is_read = is })
+            (subst (λ (lists : Lists). IsNoneLeftOpen lists) lists_are
+            (none_left_open manner.reading analysed.groups analysed.recording of.reported.closed (of.reported.is_verdict.free.0 free)))
+
         of_run : (first : List ℕ) (texts : ℕ → Option (List ℕ)) (hold : Run) → AreKnown known (length hold) first texts → run_of first texts ≡ Ok hold →
             IsRecordingOfRun hold (judged_choice manner.choice) analysed.groups analysed.recording pending of.judged
         of_run first texts hold are is =

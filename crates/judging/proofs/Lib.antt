@@ -21,3 +21,4 @@ pub mod UnpendingLemmas
 pub mod PlainLemmas
 pub mod TableLemmas
 pub mod UnderWayLemmas
+pub mod FreeLemmas

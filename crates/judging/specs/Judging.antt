@@ -18,6 +18,8 @@ use Rattle.waitgraph.specs.PendingStays.{StaysPutBy}
 use Rattle.waitgraph.specs.PendingVerdicts.{IsVerdictBy}
 use Rattle.waitgraph.specs.declared.awaited.Awaited.{Awaited}
 use Rattle.waitgraph.specs.declared.verdict.Verdict.{Verdict}
+use Rattle.waitgraph.specs.declared.verdict.Verdict.TheVariants.{Free}
+use Rattle.lawful.specs.Free.{IsWhole}
 use Rattle.report.specs.PendingReport.{pending_report}
 use Rattle.report.specs.declared.judged.Judged.{Judged}
 use Rattle.report.specs.declared.judged.LeftAt.{LeftAt}
@@ -100,7 +102,7 @@ pub record IsRecordingOfRun (run : Run) (choice : Choice) (groups : Groups) (rec
 -- ---- Reports ----
 
 -- by the manner's reading and by what is known of how lists go on, report and verdict are those of a closed recording;
--- where the files are known, they hold a run, and the recording is that of the run
+-- where the files are known, they hold a run, and the recording is that of the run; what is told free was called so
 pub record IsJudgedReport (known : Known) (manner : Manner) (verdict : Verdict) (report : List ℕ) : Type 0 where
   pub groups : Groups
   pub recording : Lists
@@ -119,6 +121,8 @@ pub record IsJudgedReport (known : Known) (manner : Manner) (verdict : Verdict) 
       run_of first texts ≡ Ok run → IsRecordingOfRun run (judged_choice manner.choice) groups recording pending judged
   pub of_none_refused : (first : List ℕ) (texts : ℕ → Option (List ℕ)) (fault : RankFault) → AreKnown known MOST_RANKS first texts →
       run_of first texts ≡ Err fault → ⊥
+  pub free_is_whole : (first : List ℕ) (texts : ℕ → Option (List ℕ)) (run : Run) → AreKnown known (length run) first texts →
+      run_of first texts ≡ Ok run → verdict ≡ Free → IsWhole run (recording_of run (judged_choice manner.choice))
 
 -- ---- Faults ----
 
