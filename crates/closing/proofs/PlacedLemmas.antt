@@ -1,5 +1,5 @@
 -- The entries of a rank from a place of its journal on.
-use Rattle.std.proofs.Common.{◌≡◌, ◌∙◌, refl, sym, ap, arith, ℕ, zero, suc, ◌+◌, Option, Some, None, List, [], ◌∷◌, ◌++◌, length, take, drop}
+use Rattle.std.proofs.Common.{◌≡◌, ◌∙◌, refl, sym, ap, arith, ℕ, zero, suc, ◌+◌, false, Option, Some, None, List, [], ◌∷◌, ◌++◌, length, take, drop}
 use Rattle.std.specs.Prelude.{slice_get}
 use Rattle.journals.specs.Lines.{Line}
 use Rattle.journals.specs.Taking.{word_at, fields_at}
@@ -11,11 +11,14 @@ use Rattle.journals.specs.declared.word.CallWord.{CallWord}
 use Rattle.closing.specs.RankComms.{RankComms, comms_first, after_line, after_lines}
 use Rattle.closing.specs.Entries.{placed_at, entries_from}
 use Rattle.journals.specs.declared.word.ReportWord.{ReportWord}
-use Rattle.closing.specs.inner.Holds.{report_taken}
+use Rattle.journals.specs.declared.word.ReportWord.TheVariants as report
+use Rattle.closing.specs.inner.Holds.{brings, report_taken}
+use Rattle.closing.specs.inner.Pending.{key_told}
 use Rattle.closing.specs.inner.Noted.{reports_in}
 use Rattle.closing.specs.inner.SoFar.{comms_at, entries_left, placed_here}
 use Rattle.closing.proofs.HoldsLemmas.{report_line}
 use Rattle.closing.proofs.LastLemmas.{line_of, lines_from, none_at_call, none_at_none}
+use Rattle.closing.proofs.NamedLemmas.{none_brought}
 
 pub no_length : {A : Type 0} (xs : List A) → length xs ≡ 0 → xs ≡ []
 no_length [] e = refl
@@ -50,6 +53,28 @@ comms_reported rank lines n word e =
     ap (report_taken (comms_at rank lines n) word) fields
     ∙ report_line (comms_at rank lines n) word at.0
     ∙ sym (comms_next rank lines n (line_of (Report word) at.0) there)
+
+pub same_report : (a b : ReportWord) → Some (Report a) ≡ Some (Report b) → a ≡ b
+same_report a b e = cc
+
+-- a report of another word changes nothing, and tells no key
+pub silent_reported : (rank : ℕ) (lines : List Line) (n : ℕ) (word : ReportWord) → word_at lines n ≡ Some (Report word) → brings word ≡ false
+    → comms_at rank lines n ≡ comms_at rank lines (n + 1)
+silent_reported rank lines n word e silent =
+    sym (none_brought (comms_at rank lines n) word (fields_at lines n) silent) ∙ comms_reported rank lines n word e
+
+pub silent_key : (comms : RankComms) (word : ReportWord) (fields : List Field) → brings word ≡ false → key_told comms word fields ≡ None
+silent_key comms report.Comm fields e = cc
+silent_key comms report.Idup fields e = cc
+silent_key comms report.Apart fields e = cc
+silent_key comms report.Got fields e = refl
+silent_key comms report.Done fields e = refl
+silent_key comms report.Chose fields e = refl
+silent_key comms report.Gone fields e = refl
+silent_key comms report.Kept fields e = refl
+silent_key comms report.Moved fields e = refl
+silent_key comms report.NoComm fields e = refl
+silent_key comms report.Failed fields e = refl
 
 -- ---- Entries ----
 

@@ -9,7 +9,7 @@ ghost use Rattle.closing.specs.inner.Words.{counts};
 ghost use Rattle.closing.specs.Keys.{Alone};
 ghost use Rattle.closing.specs.RankComms.{after_call, comms_first, key_next, key_under, makes_comm, under, wave_next, with_duplicate, with_duplicated, with_group, with_made};
 ghost use Rattle.closing.specs.RankComms as say;
-ghost use Rattle.closing.specs.inner.Holds.{apart_taken, IsCounted, IsGot, HasComms, key_on, report_taken, times_in, waves_with};
+ghost use Rattle.closing.specs.inner.Holds.{apart_taken, brings, IsCounted, IsGot, HasComms, key_on, report_taken, times_in, waves_with};
 ghost use Rattle.closing.specs.Table.{Table};
 ghost use Rattle.closing.specs.inner.Table.{Grows, HasGroup, HasKey, IsPlaceOf, IsTable, IsWaveOf};
 ghost use Rattle.closing.specs.inner.Views.{called_view};
@@ -39,6 +39,17 @@ pub(crate) struct RankComms {
     /// group.
     wave: Option<Wave>,
     own: Option<u32>,
+}
+
+/// Whether a report with this word may bring its rank a communicator.
+#[inline(always)]
+pub(crate) fn brings(word: ReportWord) -> bool
+    ensures { result ≡ brings word }
+{
+    matches!(
+        word,
+        ReportWord::Comm | ReportWord::Idup | ReportWord::Apart
+    )
 }
 
 /// How often a place stood before. It stands once more.

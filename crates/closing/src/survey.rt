@@ -13,7 +13,7 @@ ghost use Rattle.closing.specs.Keys.{Key as SaidKey};
 ghost use Rattle.closing.specs.Made as made;
 ghost use Rattle.closing.specs.RankComms.{comms_after, comms_first, after_call, after_line, after_lines};
 ghost use Rattle.closing.specs.RankComms as say;
-ghost use Rattle.closing.specs.inner.Holds.{HasComms, brings, report_taken};
+ghost use Rattle.closing.specs.inner.Holds.{HasComms, report_taken};
 ghost use Rattle.closing.specs.inner.Words.{is_plain};
 ghost use Rattle.closing.specs.inner.Noted.{HavePlaces, IsLastCall};
 ghost use Rattle.closing.specs.inner.Surveyed.{HasGot, HasRank, IsSurveyed, IsSurveyedTo, Keeps, TakesRank, IsFound, Await, HaveNone, as_list, gives_at, journal_of_code, names_by, names_from, run_of_journals, inferred_with, waits_at, waits_for, with_name};
@@ -25,22 +25,12 @@ use crate::called::{comm_in, is_plain, read_call};
 use crate::keys::{Key, Keys, Wave};
 use crate::last::{LastCall, last_call_of};
 use crate::places::{checked_place, count_of};
-use crate::rank_comms::RankComms;
+use crate::rank_comms::{RankComms, brings};
 use journals::field::Field;
 use journals::journal::Journal;
 use journals::lines::Lines;
 use journals::word::{CallWord, ReportWord, Word};
 use std::alloc::{AllocError, Global};
-
-/// Whether a report with this word may bring its rank a communicator.
-fn brings(word: ReportWord) -> bool
-    ensures { result ≡ brings word }
-{
-    matches!(
-        word,
-        ReportWord::Comm | ReportWord::Idup | ReportWord::Apart
-    )
-}
 
 /// What is known of the communicators of a run by its journals, each taken in rank order.
 #[derive(Drop)]

@@ -45,7 +45,7 @@ use crate::list::List;
 use crate::message::{Message, message_in};
 use crate::numbers::{Communicators, Named};
 use crate::pending::{Pending, Sink, Sinks};
-use crate::rank_comms::RankComms;
+use crate::rank_comms::{RankComms, brings};
 use crate::standing::Standing;
 use crate::stop::Stop;
 use crate::why::Why;
@@ -418,9 +418,8 @@ impl Walk {
     // ---- Entries ----
 
     /// Takes the report at a place, if there is one, and answers the key of the communicator that the call before
-    /// it made.
-    #[inline(never)]
-    #[tactic(auto, using(crate::proofs::PlacedLemmas::comms_reported))]
+    /// it made. Most reports bring none.
+    #[inline(always)]
     fn take_report(
         &mut self,
         run: &mut Communicators,
@@ -438,6 +437,30 @@ impl Walk {
         let Some(Word::Report(word)) = lines.word(line) else {
             return Ok(None);
         };
+        if !brings(word) {
+            return Ok(None);
+        }
+        self.take_bringing(run, lines, line, word)
+    }
+
+    /// The same of a report with this word.
+    #[inline(never)]
+    #[tactic(auto, using(crate::proofs::PlacedLemmas::comms_reported))]
+    fn take_bringing(
+        &mut self,
+        run: &mut Communicators,
+        lines: &Lines,
+        line: u32,
+        word: ReportWord,
+    ) -> Result<Option<u32>, AllocError>
+        ensures same { self.new ≡ record self.old { comms = self.new.comms } }
+        ensures run { run.new ≡ record run.old { keys = run.new.keys } }
+        ensures comms { OnOk result ((rank : ℕ) → word_at lines.now line ≡ Some (Report word) → HasComms run.old.keys self.old.comms (comms_at rank lines.now line) →
+            HasComms run.new.keys self.new.comms (comms_at rank lines.now (line + 1))) }
+        ensures grows { OnOk result ((rank : ℕ) → HasComms run.old.keys self.old.comms (comms_at rank lines.now line) → Grows run.old.keys run.new.keys) }
+        ensures made { IfOk result (λ made. (rank : ℕ) → word_at lines.now line ≡ Some (Report word) → HasComms run.old.keys self.old.comms (comms_at rank lines.now line) →
+            IsPlaceOf run.new.keys made (key_told (comms_at rank lines.now line) word (fields_in lines.now line))) }
+    {
         let key = self
             .comms
             .take_report(&mut run.keys, word, lines.fields(line))?;
