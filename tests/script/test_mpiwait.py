@@ -7,6 +7,7 @@ import subprocess
 import tempfile
 import unittest
 from pathlib import Path
+from unittest.mock import patch
 
 TOP = Path(__file__).resolve().parents[2]
 LINE = "mpiwait: this answer comes of code that isn't proved on this machine\n"
@@ -33,6 +34,8 @@ class Script(unittest.TestCase):
         for name in ("src", "specs", "proofs"):
             (crate / name).mkdir(parents=True)
         shutil.copytree(TOP / "tools/texts", self.top / "tools/texts")
+        (self.top / "tools/companions").mkdir()
+        shutil.copy(TOP / "tools/companions/unproved.py", self.top / "tools/companions/unproved.py")
         for name in ("mpiwait", "HANDLES", "crates.txt"):
             shutil.copy(TOP / name, self.top / name)
         self.here = self.folder / "here"
@@ -148,6 +151,24 @@ class Script(unittest.TestCase):
             for status in (0, 1, 2, 5, 6):
                 self.play("verdict free\n", status=status, notes=notes)
                 self.assertEqual(self.run_script("--unproved", "check", "head", "r0")[:2], (4, ""))
+
+    def test_an_answer_that_cannot_be_written_is_no_verdict(self):
+        self.play("verdict hang\n", status=1)
+        for redirection in (">/dev/full", ">&-"):
+            words = ["bash", "-c", f'exec "$0" "$@" {redirection}', self.top / "mpiwait", "--unproved", "run"]
+            path = f"{self.folder / 'bin'}:{os.environ['PATH']}"
+            done = subprocess.run(words, cwd=self.here, env={**os.environ, "PLAYED": str(self.folder), "PATH": path},
+                                  stderr=subprocess.PIPE, text=True, check=False)
+            self.assertEqual(done.returncode, 4)
+            self.assertIn(LINE + "mpiwait: ", done.stderr)
+
+    def test_an_interrupted_answer_is_no_verdict(self):
+        kept = self.folder / "kept"
+        kept.mkdir()
+        (self.folder / "bin/rt").write_text('#!/bin/sh\nkill -TERM $PPID\nsleep 20\n')
+        with patch.dict(os.environ, TMPDIR=str(kept)):
+            self.assertEqual(self.run_script("--unproved", "run"), (4, "", "mpiwait: it was interrupted\n"))
+        self.assertEqual(list(kept.iterdir()), [])
 
     def test_without_rt_the_status_is_3(self):
         tools = self.folder / "tools"
