@@ -7,7 +7,7 @@ import time
 import unittest
 from unittest import mock
 
-from support import Folders, journal
+from support import TOOLS, Folders, journal
 from companions import places
 from companions.causes import finding_lines, near_misses
 from companions.journals import Call, Journal, journals_in, unescaped
@@ -153,6 +153,54 @@ class Speed(Folders):
         self.assertEqual(found.calls([900_000])[900_000].word, "send")
         self.assertEqual(found.last.word, "send")
         self.assertLess(time.process_time() - began, 1)
+
+
+COUNTING = """\
+#include "journal.h"
+#include <stdio.h>
+
+bool in_doubt;
+static char text[1 << 14];
+int create_text(const char *folder, const char *name, int rank) { return (void)folder, (void)name, rank; }
+char *map_text(int file, long start, unsigned long size) { return file + start + size ? text : NULL; }
+
+int main(void) {
+    counts_open("", 99);
+    left_out(WAITS, "MPI_Win_wait");
+    left_out(NOTHING, "MPI_Test");
+    left_out(PARTNERS, "calls of others");
+    puts(text);
+    left_out(WAITS, "MPI_Put");
+    puts(text);
+    counts_came_back();
+    counts_came_back();
+    left_out(PARTNERS, "calls of others");
+    puts(text);
+    left_out(WAITS, "MPI_Win_wait");
+    puts(text);
+}
+"""
+
+
+class Counts(Folders):
+    """What the recorder writes of calls that have no line."""
+
+    def test_the_call_that_a_rank_is_in(self):
+        if not shutil.which("gcc"):
+            self.skipTest("there is no gcc")
+        self.write("a.c", COUNTING)
+        words = ["gcc", "-std=gnu11", "-Wall", "-Wextra", "-Werror", "-I", TOOLS / "record", "-o", "a", "a.c"]
+        subprocess.run([*words, TOOLS / "record/counts.c", "-lpthread"], cwd=self.folder, check=True)
+        said = subprocess.run([self.folder / "a"], capture_output=True, text=True, check=True).stdout
+        parts = (text.split("\n") for text in said[:-2].split("\n\n"))
+        texts = [[(line[0], int(line[2:14]), line[15:]) for line in part] for part in parts]
+        wait, test, others, put = "MPI_Win_wait", "MPI_Test", "calls of others", "MPI_Put"
+        self.assertEqual(texts, [
+            [("w", 1, wait), ("N", 1, test), ("P", 1, others)],
+            [("W", 1, wait), ("N", 1, test), ("P", 1, others), ("w", 1, put)],
+            [("W", 1, wait), ("N", 1, test), ("P", 2, others), ("W", 1, put)],
+            [("w", 2, wait), ("N", 1, test), ("P", 2, others), ("W", 1, put)],
+        ])  # fmt: skip
 
 
 PROGRAM = """\

@@ -351,6 +351,13 @@ class Alarms(Folders):
         )
         self.assertIn("rank 0 waits in MPI_Recv", self.said.getvalue())
 
+    def test_a_hang_and_a_call_that_is_only_counted(self):
+        """Of a rank in such a call nothing is reported, and the others are."""
+        alarm = self.alarm(*self.HANG, "send 0 null 0 4 @3 / barrier 1 @4", state="iio")
+        self.write("journal/left2", "w 000000000001 MPI_Win_wait\n")
+        self.assertLessEqual(self.answers(alarm), 12)
+        self.assertIn("ranks 0 and 1 wait for ever", self.said.getvalue())
+
     def test_a_hang_of_one_rank(self):
         self.assertLessEqual(self.answers(self.alarm("recv 0 1 5 @7", "finalize @8", state="io")), 12)
         self.assertIn("rank 0 waits for ever, whatever the other ranks do; ", self.said.getvalue())

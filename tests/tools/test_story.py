@@ -92,6 +92,18 @@ class Statuses(Folders):
         self.assertEqual(self.left(FREE, left), (0, title + "nothing is said of the waits of 12 other calls"))
         self.assertEqual(self.left(BOTH, left), (1, "verdict hang: 2 of 2 ranks wait"))
 
+    def test_counts_that_are_cut_or_none(self):
+        """A cut text is read up to its last whole line. A line that is no count leaves no verdict to be trusted."""
+        free = "verdict free: every rank comes to its MPI_Finalize"
+        for text in ("", "\0" * 99, "w", "P 000000000003 calls of", "N 000000000009 MPI_Test\nw 0000\0\0\nP"):
+            with self.subTest(text):
+                self.assertEqual(self.left(FREE, text), (0, free))
+        for text in ("\n", "w\n", "w 1 MPI_Put\n", "w 00000000000x MPI_Put\n", "p 000000000001 calls\n",
+                     "w 0000000000001 MPI_Put\n", b"\xff\x1b\n", "w" * 99_999 + "\n", "{0} {1} {2}\n"):  # fmt: skip
+            with self.subTest(text[:20]):
+                status, title = self.left(FREE, text)
+                self.assertEqual((status, title[:45]), (6, "not judged: recorded calls may match 1 call t"))
+
     def test_what_is_asked(self):
         """Nothing but `judge --json', by the journals alone, as few times as may be."""
         for ranks, state, asked in (
@@ -296,14 +308,19 @@ class CutOff(Folders):
             said, ["rank 0: MPI_Bcast at /a.py:4 with root -1 names a rank or a tag that can't be"]
         )
 
+    CUT_OFF = ("finalize", "recv 0 any 4 @2", "barrier 0 @1 / abort @2", "barrier 0 @3 / exit", "full @1",
+               "send 0 1 0 @1 / stopped the disk is full", None, *["barrier 0 @1"] * 3)  # fmt: skip
+
+    def where(self, left, *ranks, **words):
+        """Where the ranks were, of which some have such counts."""
+        self.run_of(*ranks, **words)
+        for rank, text in left.items():
+            self.write(f"journal/left{rank}", text)
+        return self.sections(*ranks, **words)[WHERE]
+
     def test_where_ranks_were(self):
-        said = self.sections(
-            "finalize", "recv 0 any 4 @2", "barrier 0 @1 / abort @2", "barrier 0 @3 / exit",
-            "full @1", "send 0 1 0 @1 / stopped the disk is full", None, "barrier 0 @1", "barrier 0 @1", "barrier 0 @1",
-            state="iiiiiiiiio",
-        )  # fmt: skip
         self.assertEqual(
-            said[WHERE],
+            self.where({}, *self.CUT_OFF, state="iiiiiiiiio"),
             [
                 "rank 1: inside MPI_Recv at /a.py:2",
                 "rank 2: called MPI_Abort at /a.py:2",
@@ -316,12 +333,47 @@ class CutOff(Folders):
             ],
         )
 
-    def test_ranks_that_poll(self):
-        polls = {0: (1, 5, 20), 1: (1, 5, 1000), 2: (2, 1, 7)}
-        after = {rank: " polls {:08x} {:02x} {:016x}".format(*one) for rank, one in polls.items()}
-        calls = ["barrier 0 @9", "barrier 0 @9", "irecv 1 0 0 5 @4 / barrier 0 @9"]
+    def test_ranks_in_calls_that_are_only_counted(self):
+        count = "W 000000000002 MPI_Win_post\nw 000000000001 {}\nN 000000000003 MPI_Iprobe, found nothing\n"
+        left = {4: "MPI_File_read_all", 7: "MPI_Put", 9: "MPI_Win_wait"}
+        left = {rank: count.format(call) for rank, call in left.items()}
+        said = self.where(left, *self.CUT_OFF, state="iiiiiiiiio")
         self.assertEqual(
-            self.sections(*calls, state="o", after=after)[WHERE],
+            [line for line in said if line.startswith(("rank 4", "ranks 7", "rank 9"))],
+            [
+                "rank 4: made more than 1,000,000 calls; those after them aren't judged; now in MPI_File_read_all, "
+                "which isn't recorded",
+                "ranks 7 and 8: inside MPI_Barrier at /a.py:1",
+                "rank 9: back from MPI_Barrier at /a.py:1, and in MPI_Win_wait, which isn't recorded",
+            ],
+        )
+
+    def test_ranks_that_asked_before_a_call_that_is_only_counted(self):
+        words = "collectives on communicators that have no number"
+        said = self.where({0: f"w 000000000001 {words}\n"}, *self.POLLING, state="o", after=self.POLLS)
+        self.assertEqual(
+            said[0],
+            "rank 0: asked again and again: MPI_Iprobe at /a.py:1 (20 times, found nothing); before that MPI_Barrier "
+            f"at /a.py:9; now in a call that isn't recorded: {words}",
+        )
+        self.assertTrue(said[1].startswith("rank 1: ") and said[1].endswith("before that MPI_Barrier at /a.py:9"))
+
+    def test_hostile_names_of_calls(self):
+        """Whatever is there is one line, and the last mark of several is reported."""
+        for name, shown in (("{0}", "{0}"), ("\x1b[2J\u2028", "\\x1b[2J\\u2028"), ("\\x0a", "\\x0a")):
+            with self.subTest(name):
+                self.again()
+                left = {9: f"w 000000000001 MPI_Put\nw 000000000001 {name}\n"}
+                said = self.where(left, *self.CUT_OFF, state="iiiiiiiiio")
+                self.assertTrue(said[-1].endswith(f", and in {shown}, which isn't recorded"), said)
+
+    POLLS = {rank: " polls {:08x} {:02x} {:016x}".format(*one)
+             for rank, one in {0: (1, 5, 20), 1: (1, 5, 1000), 2: (2, 1, 7)}.items()}  # fmt: skip
+    POLLING = ("barrier 0 @9", "barrier 0 @9", "irecv 1 0 0 5 @4 / barrier 0 @9")
+
+    def test_ranks_that_poll(self):
+        self.assertEqual(
+            self.where({}, *self.POLLING, state="o", after=self.POLLS),
             [
                 "ranks 0 and 1: asked again and again: MPI_Iprobe at /a.py:1 (20 to 1,000 times, found nothing); "
                 "before that MPI_Barrier at /a.py:9",

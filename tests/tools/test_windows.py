@@ -252,6 +252,10 @@ class Reports(Cut):
                 (last,) = self.stories(*[FREE] * (number - 1), ("recv 0 1 0 @7", ""))
                 said = dict(last.sections)["Where the ranks were that didn't come to MPI_Finalize"]
                 self.assertEqual((last.status, said[1]), (5, wanted))
+        self.write("journal/left1", "w 000000000001 MPI_Win_wait\n")
+        (last,) = stories_of(self.folder / "journal", Stored(), None)
+        said = dict(last.sections)["Where the ranks were that didn't come to MPI_Finalize"]
+        self.assertEqual(said[1], f"{wanted}; now in MPI_Win_wait, which isn't recorded")
 
     def test_two_runs(self):
         """Each is told by its number, and so are its windows."""

@@ -33,6 +33,7 @@ BEFORE |= dict.fromkeys(["irecv", "mprobe", "improbe", "comm_idup"], 1)
 # The bytes of a standard send are its last field; three come before them, after those that differ.
 STANDARD_SEND = rb"\n(?:r?send|ir?send \d+|sendrecv \d+ \S+|isendrecv \d+ \d+ \d+ \S+)"
 SIZE = re.compile(STANDARD_SEND + rb"(?: \S+){3} (\d+)(?= @|\n)")
+COUNTED = re.compile(r"(?:([PWNw]) (\d{12}) )?(.*)", re.ASCII)  # of leftR; of other lines the text alone
 NAMES = {"exit": "the end of the process", "cut": "the end of the window",
          "comm_make": "a call that makes communicators", "full": "a call"}
 
@@ -83,11 +84,10 @@ def top_of(folder):
 
 def is_closed(folder):
     """Whether all ranks came to the end of a window."""
-    try:
+    with suppress(FileNotFoundError):
         journals = journals_in(folder)
-    except FileNotFoundError:
-        return False
-    return bool(journals) and all(one.last and one.last.word == "cut" for one in journals)
+        return bool(journals) and all(one.last and one.last.word == "cut" for one in journals)
+    return False
 
 
 class Journal:

@@ -9,7 +9,7 @@ from collections import Counter, namedtuple
 from functools import lru_cache
 from pathlib import Path
 
-from .journals import RECEIVES, STANDARD, Call, journals_in, top_of, written
+from .journals import COUNTED, RECEIVES, STANDARD, Call, journals_in, top_of, written
 from .places import Places, printable
 from .script import HERE, Status, Stopped, worst
 
@@ -18,6 +18,7 @@ VERDICTS = {0: "free", 1: "hang", 5: "unfinished"}
 # What was answered: a report, or the words of a refusal or a fault.
 Answer = namedtuple("Answer", "status report said", defaults=(None, ""))
 MATCHED = {"mprobe", "improbe"}  # they take messages, for which other requests may stand
+WITHIN = ("in {}, which isn't recorded", "in a call that isn't recorded: {}")  # by its name, or other words
 
 
 class Run:
@@ -30,11 +31,13 @@ class Run:
         # Whether the recorded ranks were strict; None if only some of them were.
         strict = {journal.header.is_strict for journal in self.journals if journal.header}
         self.is_strict = None if len(strict) > 1 else True in strict
-        # What was only counted: by meaning, what, how often by rank.
-        self.left_out = {"P": {}, "W": {}, "N": {}}
+        # What was only counted: by meaning, what, how often by rank; and the calls that ranks are in.
+        self.left_out, self.within = {"P": {}, "W": {}, "N": {}}, {}
         for rank in self.ranks:
-            for meaning, count, call in (line.split(" ", 2) for line in written(self.top / f"left{rank}")):
-                self.left_out[meaning].setdefault(call, {})[rank] = int(count)
+            for line in written(self.top / f"left{rank}"):
+                meaning, count, call = COUNTED.fullmatch(printable(line)).groups()
+                self.left_out[(meaning or "P").upper()].setdefault(call, {})[rank] = int(count or 1)
+                self.within |= {rank: WITHIN[" " in call].format(call)} if meaning == "w" else {}
         # Why the recording wasn't cut into windows, if it was to be.
         self.uncut = [(call, self.left_out["N"].pop(call)) for call in list(self.left_out["N"])
                       if call.startswith(("moments without a cut", "no windows"))]  # fmt: skip
@@ -121,10 +124,8 @@ class View:
         self.whys = {rank: {} for rank in run.ranks}  # why calls are left out, by their lines
         for rank, number, why in report["left"]:
             self.whys[rank] |= {number: why} if number > 1 else {}
-        self.left_calls = {}
-        for rank, whys in self.whys.items():
-            found = run.calls(rank, whys) if whys else {}
-            self.left_calls[rank] = [found[number] for number in whys]
+        found = {rank: run.calls(rank, whys) if whys else {} for rank, whys in self.whys.items()}
+        self.left_calls = {rank: [found[rank][number] for number in whys] for rank, whys in self.whys.items()}
         self.stuck = {entry["rank"]: Stuck(self, entry) for entry in report["ranks"]}
         self.held = self.held_among(set(self.stuck))
         self.unreceived = {}  # the sends that nobody receives, with what they send, by both ranks
@@ -142,8 +143,7 @@ class View:
 
     def ends_list(self, call):
         """Whether a call that is left out ends what is known of its rank."""
-        went = self.is_went and call.word in RECEIVES
-        is_sink = went or call.word in ("irecv", "isendrecv")
+        is_sink = call.word in ("irecv", "isendrecv") or self.is_went and call.word in RECEIVES
         return self.whys[call.rank][call.number] not in ("never told", "not judged") or not is_sink
 
     def held_among(self, ranks):

@@ -94,10 +94,9 @@ class Story(Judgement):
     def _unfinished(self):
         full = [one.rank for one in self.run.journals if one.last and one.last.word == "full"]
         cut = [one.rank for one in self.run.journals if not one.has_ended and one.rank not in full]
-        parts = [f"{ranks_named(full)} {MANY}"] if full else []
-        parts += [f"{ranks_named(cut)} cut off before MPI_Finalize"] if cut else []
-        said = ", ".join(parts) or "not all calls could be judged"
-        return f"unfinished: {said}; nothing recorded holds anybody"
+        parts = ((full, MANY), (cut, "cut off before MPI_Finalize"))
+        said = ", ".join(f"{ranks_named(ranks)} {what}" for ranks, what in parts if ranks)
+        return f"unfinished: {said or 'not all calls could be judged'}; nothing recorded holds anybody"
 
     def _sections(self):
         found, counts = {}, self.run.unrecorded.items()
@@ -178,27 +177,28 @@ class Story(Judgement):
         ends = {"finalize"} | ({"cut"} if self.run.has_ended else set())
         cut = [one.rank for one in self.run.journals if not one.last or one.last.word not in ends]
         for ranks in grouped(cut, self._place_of):
-            polls = [self.run.journals[rank].polls for rank in ranks]
-            counts = sorted(one[2] for one in polls if one)
+            counts = sorted(one[2] for one in (self.run.journals[rank].polls for rank in ranks) if one)
             asked = " to ".join(f"{count:,}" for count in dict.fromkeys(counts[:1] + counts[-1:]))
             yield f"{ranks_named(ranks)}: {self._place_of(ranks[0]).replace(TIMES, f'{asked} times')}"
 
     def _place_of(self, rank):
         journal, last = self.run.journals[rank], self.run.journals[rank].last
+        within = self.run.within.get(rank, "computing or in a call that isn't recorded")
+        now = f"; now {within}" if rank in self.run.within else ""
         if last is None:
             is_first = self.run.folder.name in ("1", self.run.top.name)
-            return "never came through MPI_Init" if is_first else "made no call in this window"
+            return ("never came through MPI_Init" if is_first else "made no call in this window") + now
         if journal.polls:
-            return self._polling(rank, *journal.polls)
+            return self._polling(rank, *journal.polls) + now
         before = [call.placed() for call in journal.tail()[-2:-1]]
         words = {
             "exit": f"its process ended without MPI_Finalize{', after ' + before[0] if before else ''}",
             "cut": "came to the end of this window, and went on",
-            "full": f"{MANY}; those after them aren't judged", "abort": f"called {last.placed()}",
+            "full": f"{MANY}; those after them aren't judged{now}", "abort": f"called {last.placed()}",
             "stopped": f"{', and '.join([*before, ''])}recorded no further: {' '.join(last.fields)}",
         }  # fmt: skip
         is_inside = journal.header.is_inside and last.word != "test"
-        computes = f"back from {last.placed()}, and computing or in a call that isn't recorded"
+        computes = f"back from {last.placed()}, and {within}"
         return words.get(last.word) or (f"inside {last.placed()}" if is_inside else computes)
 
     def _polling(self, rank, name, site, count):

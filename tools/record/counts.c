@@ -9,17 +9,19 @@ enum {
     ROOM = 1 << 14, /* bytes of the text */
     KINDS = 128,    /* the last three are for calls that have no room of their own */
     DIGITS = 12,
-    OTHERS_ROOM = 128
+    OTHERS_ROOM = 128,
+    WITHIN = 'w' /* in place of WAITS */
 };
 
 /* One line for each kind, `W 000000000012 MPI_Put`, whose digits are counted up in place. */
 static struct {
     char *text, *end;
+    char *within; /* the line of the call that the rank is in, or NULL */
     int kinds;
     struct {
         Meaning meaning;
         const char *what;
-        char *last_digit;
+        char *line;
     } kind[KINDS];
 } counts;
 
@@ -50,13 +52,26 @@ static int new_kind(Meaning meaning, const char *what) {
     memset(at, '0', DIGITS);
     counts.kind[counts.kinds].meaning = meaning;
     counts.kind[counts.kinds].what = what;
-    counts.kind[counts.kinds].last_digit = at + DIGITS - 1;
+    counts.kind[counts.kinds].line = line;
     at[DIGITS] = ' ';
     at = stpcpy(at + DIGITS + 1, what);
     *at++ = '\n';
     __atomic_store_n(line, (char)meaning, __ATOMIC_RELEASE);
     counts.end = at;
     return counts.kinds++;
+}
+
+/* What waits is left out by the thread that has the turn, so no other one writes these letters. */
+static void goes_within(char *line) {
+    counts_came_back();
+    __atomic_store_n(line, WITHIN, __ATOMIC_RELEASE);
+    counts.within = line;
+}
+
+void counts_came_back(void) {
+    if (counts.within)
+        __atomic_store_n(counts.within, WAITS, __ATOMIC_RELEASE);
+    counts.within = NULL;
 }
 
 void left_out(Meaning meaning, const char *what) {
@@ -69,7 +84,9 @@ void left_out(Meaning meaning, const char *what) {
         kind = find_kind(meaning, what = others);
     if (kind == counts.kinds)
         kind = new_kind(meaning, what);
-    count_up(counts.kind[kind].last_digit);
+    count_up(counts.kind[kind].line + 1 + DIGITS);
+    if (meaning == WAITS)
+        goes_within(counts.kind[kind].line);
     pthread_mutex_unlock(&counting);
 }
 

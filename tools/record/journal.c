@@ -240,6 +240,7 @@ void journal_came_back(void) {
     if (call.lines > 0)
         set_state('o');
     call.lines = 0;
+    counts_came_back();
 }
 
 void journal_take_back(void) {

@@ -19,7 +19,8 @@
  * call it was (Poll), and how many there were since the last call line. S and these digits are overwritten in
  * place.
  *
- * A line of leftR is `M NNNNNNNNNNNN WORDS`: a letter of Meaning, how often, and which calls.
+ * A line of leftR is `M NNNNNNNNNNNN WORDS`: a letter of Meaning, how often, and which calls. The letter is
+ * `w` in place of `W` while the rank is in such a call. It is overwritten in place, like the digits.
  *
  * A line of sitesR is a number, a tab, and frames with tabs between them, the innermost first. A frame is
  * `MODULE+0xOFFSET` or, in Python code, `FILE:LINE`. In a name, a backslash, a byte below 32 and the byte 127
@@ -117,8 +118,10 @@ typedef enum {
 /* Why there is no room for the counts, or NULL. */
 const char *counts_open(const char *folder, int rank);
 
-/* Counts a call that has no line. `what` must stay in memory, as a constant does. */
+/* Counts a call that has no line. `what` must stay in memory, as a constant does. With WAITS it is the call
+ * that is being recorded, and the rank is in it until it comes back. */
 void left_out(Meaning meaning, const char *what);
+void counts_came_back(void);
 
 /* How both texts are made: a new file; and a part of it, zero bytes, mapped into memory, or NULL. */
 int create_text(const char *folder, const char *name, int rank);
