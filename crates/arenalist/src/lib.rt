@@ -1,14 +1,14 @@
 //! Many doubly linked lists in one arena.
 //!
 //! A `Lists<T>` is a map from list numbers to lists of nodes, each with a value. A value keeps its
-//! node while it stands in the lists, also where it is moved from one list to another, and a node
+//! node while it is in the lists, also where it is moved from one list to another, and a node
 //! is taken out of the middle of a list without a search.
 //!
 //! What the crate promises, by the definitions of `specs/Arena.antt`:
 //!
 //! - Each call's contract gives the whole new map, so every list that the call does not name stays.
-//!   No node stands twice, in one list or in two. Where memory is refused nothing changes.
-//! - `new_list` answers a number that was never used before, and a push a node that stands in no
+//!   No node is in two lists, or in one twice. Where memory is refused nothing changes.
+//! - `new_list` answers a number that was never used before, and a push a node that is in no
 //!   list. A node that is taken out is spare, and a later push uses it again.
 //! - `work` counts what was done: 1 for a push, an unlink and a pop that finds something, 2 for a
 //!   move, and 2 for each node that `append` moves. It stays at the greatest `u64`.

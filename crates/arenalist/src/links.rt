@@ -115,7 +115,7 @@ fn reserve_cells(
     Ok(())
 }
 
-/// Cells by number, each in one list or in none. A list is a ring: its own cell, the head, stands
+/// Cells by number, each in one list or in none. A list is a ring: its own cell, the head, is
 /// between its last cell and its first, so that linking and unlinking never meet an end.
 pub(crate) struct Links {
     heads: Vec<u32>,
@@ -124,6 +124,7 @@ pub(crate) struct Links {
     owners: Vec<Option<u32>>,
 }
 
+// By hand: a derived drop is proved again at each exit of a function that owns one.
 impl Drop for Links {
     fn drop(self) {
         let Links {
@@ -178,6 +179,7 @@ impl Links {
         requires { number < length self.now.lists }
         ensures { result ≡ number }
     {
+        // For the proof: the number of heads, which is that of the lists, is less than 2^32.
         let _heads = &self.heads;
         number as u32
     }

@@ -55,6 +55,7 @@ pub struct Lists<T> {
     work: u64,
 }
 
+// By hand: a derived drop is proved again at each exit of a function that owns one.
 impl<T: Drop> Drop for Lists<T> {
     fn drop(self) {
         let Lists {
@@ -192,7 +193,7 @@ impl<T> Lists<T> {
         ListId::new(self.links.list(number))
     }
 
-    /// The list that a node stands in, and None for a spare node.
+    /// The list that a node is in, and None for a spare node.
     pub fn list_of(&self, node: Node) -> Option<ListId>
         ensures linked { IsSome result ↔ IsLinked self.now.lists node }
         ensures standing { (l : ℕ) → HasNode (list_at self.now.lists l) node → result ≡ Some l }
@@ -222,10 +223,11 @@ impl<T> Lists<T> {
         value_mut(&mut self.values[cell as usize])
     }
 
-    /// No node stands twice, in one list or in two. This does nothing: it only says so.
+    /// No node is in two lists, or in one twice. A law: it does nothing.
     pub fn nodes_stand_once(&self)
         ensures { (n : ℕ) → times self.now.lists n ≤ 1 }
     {
+        // For the proof: what the type says of the lists is known once one of its fields is read.
         let _links = &self.links;
     }
 

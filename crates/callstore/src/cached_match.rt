@@ -45,7 +45,7 @@ impl CachedMatch {
         }
     }
 
-    /// The same with the place of a half's partner.
+    /// What is kept with the call once a half's partner is known to be at the place.
     #[inline(always)]
     pub(crate) fn with_partner(self, half: Half, there: u32) -> CachedMatch
         ensures { result ≡ with_partner half there self }

@@ -107,8 +107,8 @@ impl<'a> CallRef<'a> {
         }
     }
 
-    /// How many bytes a call that sends tells of its message; None where it tells none, and for every other
-    /// call.
+    /// How many bytes the message of a call that sends has, where the call says so; None where it doesn't, and
+    /// for every other call.
     #[inline(always)]
     pub fn bytes(&self) -> Option<u32>
         ensures { result ≡ bytes_told self.now }

@@ -7,7 +7,7 @@
 ghost use Rattle.std.specs.Prelude.{◌≤◌};
 
 /// For how many more elements room is made in a list of so many, where this many fill a block. A list of more than
-/// a few has room for that many at once: they stand in pages of their own, of which those that are written alone take
+/// a few has room for that many at once: they are in pages of their own, of which those that are written alone take
 /// memory, and from then on it grows without a copy.
 pub(crate) fn more_room(count: usize, block: usize) -> usize
     requires { 1 ≤ block }

@@ -55,8 +55,10 @@ pub fn hot_kind(call: &Call) -> u8
 }
 
 /// Calls the function that is built for the kind, where the kind comes often; further arms say what is done for any
-/// other. The kinds are listed here alone. Such a function asks for the kind of its call again: where it is only assumed,
-/// the compiler forgets it before it builds what the function calls, and makes one function of all kinds again.
+/// other. The two functions `hot_kind` list the kinds too, and so do the looks of `moves`, which can't use this: a call
+/// that starts a request has another function there. Such a function asks for the kind of its call again: where it is
+/// only assumed, the compiler forgets it before it builds what the function calls, and makes one function of all kinds
+/// again.
 #[macro_export]
 macro_rules! by_kind {
     ($kind:expr, $($path:ident).+($($word:expr),+), $($others:tt)+) => {

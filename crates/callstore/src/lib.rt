@@ -6,15 +6,15 @@
 //! - `notes::Notes` has the noted calls of each rank, each with what is kept with it: the number of its wave or
 //!   the places of its partners, and at a wait the places that started its requests. What was noted is
 //!   answered again (`Notes`). `call_ref::CallRef` shows a call in its place.
-//! - `next_call::NextCall` is a call with what it does, found out once. `envelope` tells messages and their
-//!   envelopes (`Envelopes`), `request` requests (`Requests`), `comm` communicators (`Communicators`) and `wave`
-//!   which wave a call joins (`Waves`).
+//! - `next_call::NextCall` is a call with what it does, found out once. `envelope` has messages and
+//!   their envelopes (`Envelopes`), `request` the requests of a call (`Requests`), `comm` the communicator that
+//!   a call makes (`Communicators`) and `wave` which wave it joins (`Waves`).
 //! - `hot` numbers the kinds of calls that come often, for which the crates above have paths of their own.
 //! - `place_lists::PlaceLists` has lists of places by numbers.
 //! - Laws of waves, each on a function that does nothing: a wave has at most one call of each rank, and waves stay as
 //!   a recording goes on.
 //!
-//! The definitions stand in `specs/`, to be read in the order of docs/DEFINITIONS.md. `CachedMatch`, `Notes`,
+//! The definitions are in `specs/`, to be read in the order of docs/DEFINITIONS.md. `CachedMatch`, `Notes`,
 //! `Hot`, `Packed` and `Seats` say how calls are kept and which path they take; no contract of a crate
 //! above whose caller is a user of the library cites them. What only proofs and private contracts cite is in
 //! `specs/inner/`, and nobody has to believe it.
@@ -26,7 +26,7 @@
 //! let mut notes = Notes::new(alloc, 2)?;
 //! notes.reserve(0, &isend)?;
 //! notes.note(0, &isend, CachedMatch::Nothing, &[]);            // rank 0: isend 7 0 1 5
-//! notes.get(0, 0)?.message(Half::Send)                    // communicator 0, peer 1, tag 5
+//! notes.get(0, 0)?.call().message(Half::Send)                  // communicator 0, peer 1, tag 5
 //! ```
 #![tactic(auto)]
 

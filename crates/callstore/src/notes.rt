@@ -98,7 +98,7 @@ impl Notes {
         list.note(call, cached, starts);
     }
 
-    /// Keeps the place of a half's partner with the rank's call at the place, if one stands there.
+    /// Keeps the place of a half's partner with the rank's call at the place, if there is one.
     #[inline(always)]
     pub fn set_partner(&mut self, rank: u16, place: u32, half: Half, there: u32)
         ensures { self.new.lists ≡ partnered self.old.lists rank place half there }

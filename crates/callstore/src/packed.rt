@@ -2,7 +2,7 @@
 //! several names 4 more.
 //!
 //! A wait keeps the places of the calls that started its requests, and no numbers. The analyser asks for
-//! places at each step; numbers are wanted for reports alone, at the price of one look-up each.
+//! places at each step; numbers are needed for reports alone, at the price of one look-up each.
 
 ghost use Rattle.std.specs.Prelude.{◌≡◌, List, ℕ, unwrap_or};
 ghost use Rattle.mpicall.specs.declared.call.Call.TheVariants.{Finalize};
@@ -20,9 +20,8 @@ use mpicall::word::{Name, root_of};
 use std::mem::size_of;
 
 /// A call: an operation or a wait has a variant of its own, as in `Call`, and any other call that of its layout,
-/// with its name. A wait has the places that started its requests, and their numbers
-/// are read from the calls there. A wait for several says where these places stand in a list of its rank:
-/// `count` of them from `first` on.
+/// with its name. A wait has the places that started its requests, and their numbers are read from the calls there. A
+/// wait for several says where these places are in a list of its rank: `count` of them from `first` on.
 #[derive(Clone, Copy)]
 pub(crate) enum Packed {
     Send {

@@ -50,7 +50,7 @@ impl PackedPeer {
     }
 }
 
-/// The bytes of a message, where they are told, in 4 bytes.
+/// How many bytes a message has, where its call says so, in 4 bytes.
 #[derive(Clone, Copy)]
 pub(crate) struct PackedBytes {
     count: u32,

@@ -98,7 +98,7 @@ fn pack_args(name: Name, call_args: CallArgs) -> Packed
 }
 
 /// The call packed. The places that started the requests which it names are given, and those that are listed
-/// come to stand from `first` on.
+/// come into the rank's list from `first` on.
 #[inline(always)]
 pub(crate) fn pack(call: &Call, first: u32, starts: &[u32]) -> Packed
     requires starts { length starts.now ≡ length (waits_for call.now) }
@@ -206,7 +206,7 @@ fn request_at(entries: &[Entry], place: u32) -> Option<u32>
     entries.get(place as usize)?.call.starts()
 }
 
-/// The same, or 0 where that call starts none.
+/// The request that the rank's call at the place starts; 0 where that call starts none.
 pub(crate) fn req_at(entries: &[Entry], place: u32) -> u32
     ensures { result ≡ req_at entries.now place }
 {

@@ -115,7 +115,7 @@ impl RankNotes {
         });
     }
 
-    /// Keeps the place of a half's partner with the call at the place, if one stands there.
+    /// Keeps the place of a half's partner with the call at the place, if there is one.
     #[inline(always)]
     pub(crate) fn set_partner(&mut self, place: u32, half: Half, there: u32)
         ensures { self.new.calls ≡ partnered_in self.old.calls place half there }

@@ -48,7 +48,7 @@ pub fn completes(call: &Call) -> &[u32]
     }
 }
 
-/// Whether the number stands in the list.
+/// Whether the number is in the list.
 pub fn is_among(number: u32, numbers: &[u32]) -> bool
     ensures { result ≡ is_among number numbers.now }
 {

@@ -121,8 +121,8 @@ impl Analyser {
     }
 
     /// Takes the next call of a rank, and moves the ranks on until none can move. The call is refused
-    /// exactly where it has a fault after its rank's calls so far, with the first one, or for want of
-    /// memory; and then all is as it was. Once the call is accepted, the rest takes no memory.
+    /// exactly where it has a fault after its rank's calls so far, with the first one, or where memory
+    /// runs out; and then all is as it was. Once the call is accepted, the rest takes no memory.
     #[inline(always)]
     pub fn offer(&mut self, rank: u16, call: &Record) -> Result<(), OfferFault>
         requires is_rank { rank < length self.old.recording }

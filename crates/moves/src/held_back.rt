@@ -19,7 +19,7 @@ fn stands_earlier(first: &Analyser, second: &Analyser, rank: u16) -> bool
 /// The ranks that stand earlier in the first, rising. Both are over the same calls of the same run, and the
 /// reading of the first is strict, or each has an eager limit and that of the first is no greater. So no rank
 /// stands later in the first, and what this answers are the ranks that its reading holds back: they come as far
-/// in the second by messages alone that it sends on at once. The one failure is that memory is wanted.
+/// in the second by messages alone that it sends on at once. It fails only where memory runs out.
 pub fn held_back(alloc: Global, first: &Analyser, second: &Analyser) -> Result<Vec<u16>, AllocError>
     requires groups { first.now.groups ≡ second.now.groups }
     requires recording { first.now.recording ≡ second.now.recording }

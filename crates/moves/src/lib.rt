@@ -4,21 +4,21 @@
 //!
 //! - `analyser::Analyser` takes the ranks' calls one by one, in any mix, and knows at any time where the
 //!   ranks stand. `offer` refuses a call exactly where it has a fault, with the first one, or where memory
-//!   is wanted, and then nothing has changed. After each offer the ranks stand where every maximal run over
+//!   runs out, and then nothing has changed. After each offer the ranks stand where every maximal run over
 //!   the accepted calls ends, and no rank stands lower than before.
 //! - Every maximal run over a recording ends at the same stands, and there is one: the law
 //!   `stand::every_maximal_run_ends_at_the_stands`. No run brings a rank to its end that isn't there at
 //!   the stands, every maximal run brings the others, and a longer recording lowers no stand.
 //! - However the ranks' calls are mixed, the same calls are kept and the ranks come to stand alike: the laws
 //!   `arrival::mixes_are_kept_alike` and `arrival::mixes_stand_alike`.
-//! - By a stricter reading no rank comes to stand later, and `held_back::held_back` tells which ranks stand
+//! - By a stricter reading no rank comes to stand later, and `held_back::held_back` answers which ranks stand
 //!   earlier: those that come further only because small messages are sent on at once.
 //!
-//! A reading is strict, or it has an eager limit: then a send in standard mode that tells its bytes, no more than
+//! A reading is strict, or it has an eager limit: then a send in standard mode that says its bytes, no more than
 //! the limit, waits for nothing. It concerns `send`, `isend` and the send of a `sendrecv`, and never a synchronous
-//! or a buffered send, nor one that tells no bytes.
+//! or a buffered send, nor one that says no bytes.
 //!
-//! The definitions stand in `specs/`, to be read in the order of docs/DEFINITIONS.md: `Needs` says what a
+//! The definitions are in `specs/`, to be read in the order of docs/DEFINITIONS.md: `Needs` says what a
 //! call needs before its rank moves on, `Runs` and `Stands` where runs end. What a call over a communicator
 //! sends, receives, probes for and joins follows from `effect_of` of `mpicall`; which calls start requests and
 //! complete them is said by the tables of `callstore`. What only proofs and private contracts cite is in

@@ -18,7 +18,7 @@ use crate::world::{Positions, World};
 use callstore::hot::{COLL, IRECV, ISEND, RECV, SEND, WAIT, WAITALL};
 use pairing::call_at::CallAt;
 
-/// What a look at a rank tells.
+/// What a look at a rank answers.
 #[derive(Clone, Copy)]
 pub(crate) enum Look {
     /// The rank has no call where it stands, or the one that ends its list.
@@ -54,7 +54,7 @@ fn are_messages_met(world: &World, positions: &Positions, at: At, call: &CallAt<
         && is_none_or_met(positions, need_to_probe(world, at, call))
 }
 
-/// What is told of the operation of the call at the place.
+/// Looks at the operation of the call at the place.
 #[inline(always)]
 fn look_at_operation(world: &World, positions: &Positions, at: At, call: &CallAt<'_>) -> Look
     requires waves { KnowWaves world.now positions.now }
@@ -71,7 +71,7 @@ fn look_at_operation(world: &World, positions: &Positions, at: At, call: &CallAt
     }
 }
 
-/// What is told of the operation of any call at the place: the slow way, for calls that come seldom.
+/// Looks at the operation of any call at the place: the slow way, for calls that come seldom.
 #[inline(never)]
 fn look_at_any_operation(world: &World, positions: &Positions, at: At, call: &CallAt<'_>) -> Look
     requires waves { KnowWaves world.now positions.now }
@@ -82,7 +82,7 @@ fn look_at_any_operation(world: &World, positions: &Positions, at: At, call: &Ca
     look_at_operation(world, positions, at, call)
 }
 
-/// What is told of the operation of a call of this kind at the place. There is one such function for each kind that
+/// Looks at the operation of a call of this kind at the place. There is one such function for each kind that
 /// comes often, built for it alone; another kind of call goes the slow way.
 fn look_at_operation_of<const KIND: u8>(
     world: &World,
@@ -102,7 +102,7 @@ fn look_at_operation_of<const KIND: u8>(
     }
 }
 
-/// What is told of the operation of a call that starts a request.
+/// Looks at the operation of the call at the place, which starts a request.
 #[inline(always)]
 fn look_at_started(world: &World, positions: &Positions, at: At, call: &CallAt<'_>) -> Look
     requires waves { KnowWaves world.now positions.now }
@@ -117,7 +117,7 @@ fn look_at_started(world: &World, positions: &Positions, at: At, call: &CallAt<'
     }
 }
 
-/// The same of the call at a place.
+/// Looks at the operation of the rank's call at the place, which started a request.
 #[inline(never)]
 fn look_at_start(world: &World, positions: &Positions, rank: u16, start: u32) -> Look
     requires { KnowWaves world.now positions.now }
@@ -129,7 +129,7 @@ fn look_at_start(world: &World, positions: &Positions, rank: u16, start: u32) ->
     }
 }
 
-/// What is told of the request with that index among those that the call at the place completes.
+/// Looks at the request with that index among those that the call at the place completes.
 fn look_at_request(
     world: &World,
     positions: &Positions,
@@ -147,7 +147,7 @@ fn look_at_request(
     }
 }
 
-/// What is told of the requests that the call at the place completes.
+/// Looks at the requests that the call at the place completes, up to the first that isn't done.
 #[inline(always)]
 fn look_at_requests(world: &World, positions: &Positions, at: At, call: &CallAt<'_>) -> Look
     requires waves { KnowWaves world.now positions.now }
@@ -164,7 +164,7 @@ fn look_at_requests(world: &World, positions: &Positions, at: At, call: &CallAt<
     Look::Moves
 }
 
-/// What is told of any call at the place: the slow way. A call that starts a request needs nothing.
+/// Looks at any call at the place: the slow way. A call that starts a request needs nothing.
 #[inline(never)]
 fn look_at_any_call(world: &World, positions: &Positions, at: At, call: &CallAt<'_>) -> Look
     requires waves { KnowWaves world.now positions.now }
@@ -181,8 +181,8 @@ fn look_at_any_call(world: &World, positions: &Positions, at: At, call: &CallAt<
     }
 }
 
-/// What is told of a call of this kind at the place. There is one such function for each kind that comes often and starts
-/// no request, built for it alone; another kind of call goes the slow way.
+/// Looks at a call of this kind at the place. There is one such function for each kind that comes often and starts no
+/// request, built for it alone; another kind of call goes the slow way.
 fn look_at_call_of<const KIND: u8>(
     world: &World,
     positions: &Positions,
@@ -206,7 +206,7 @@ fn look_at_call_of<const KIND: u8>(
     }
 }
 
-/// What is told of the call at the place, by the function of its kind. A call that starts a request needs nothing.
+/// Looks at the call at the place, by the function of its kind. A call that starts a request needs nothing.
 #[inline(always)]
 fn look_at_call(world: &World, positions: &Positions, at: At, call: &CallAt<'_>) -> Look
     requires waves { KnowWaves world.now positions.now }
@@ -226,7 +226,7 @@ fn look_at_call(world: &World, positions: &Positions, at: At, call: &CallAt<'_>)
     }
 }
 
-/// What is told of a rank where it stands.
+/// Looks at a rank where it stands.
 #[inline(always)]
 pub(crate) fn look_at(world: &World, positions: &Positions, rank: u16) -> Look
     requires { KnowWaves world.now positions.now }

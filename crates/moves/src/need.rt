@@ -119,7 +119,7 @@ pub(crate) fn need_to_send(world: &World, at: At, call: &CallAt<'_>) -> Option<N
     }
 }
 
-/// The same for the message that it receives.
+/// What the operation of the call at the place needs for the message that it receives; nothing where it receives none.
 #[inline(always)]
 pub(crate) fn need_to_receive(world: &World, at: At, call: &CallAt<'_>) -> Option<Need>
     requires { IsSeenAt world.now at call.now }
@@ -128,7 +128,8 @@ pub(crate) fn need_to_receive(world: &World, at: At, call: &CallAt<'_>) -> Optio
     half_need(&world.pairs, at, Half::Recv, call)
 }
 
-/// The same for the message that it probes for: the send that the next receive of its envelope would get.
+/// What the operation of the call at the place needs for the message that it probes for: the send that the next receive
+/// of its envelope would get. Nothing where it probes for none.
 pub(crate) fn need_to_probe(world: &World, at: At, call: &CallAt<'_>) -> Option<Need>
     ensures { option_to_list result ≡ needs_for world.now at Probed (call_seen call.now) }
 {

@@ -60,8 +60,9 @@ fn next_missing(pairs: &Pairs, stands: &[u32], comm: u16, wave: u32, from: u16) 
     members
 }
 
-/// The same. Most often it is the first one, which is so looked at here; where that is met, the search begins with it once
-/// more.
+/// The first member, from the one with that rank in the group on, that has not reached its call of the wave;
+/// the number of members where each has. Most often it is the one with that rank, which is so looked at here; where
+/// it has reached its call, the search begins with it once more.
 #[inline(always)]
 fn next_missing_at_once(pairs: &Pairs, stands: &[u32], comm: u16, wave: u32, from: u16) -> u16
     requires { from ≤ length (group_of pairs.now.groups comm) }

@@ -13,11 +13,11 @@ use mpicall::call::Mode;
 pub enum Reading {
     /// Each does.
     Strict,
-    /// Each does that tells no bytes or more than this; one that tells this many or fewer needs nothing.
+    /// Each does that says no bytes or more than this; one that says this many or fewer needs nothing.
     Eager(u32),
 }
 
-/// Whether a message of so many bytes goes before its receive is reached; one that tells none doesn't.
+/// Whether a message of so many bytes goes before its receive is reached; one that says none doesn't.
 #[inline(always)]
 pub fn is_eager(reading: Reading, bytes: Option<u32>) -> bool
     ensures { result ≡ is_eager reading bytes }
@@ -28,7 +28,7 @@ pub fn is_eager(reading: Reading, bytes: Option<u32>) -> bool
     }
 }
 
-/// The bytes that a call sends in standard mode, where they are told.
+/// How many bytes a call sends in standard mode, where it says so.
 fn bytes_of(call: &CallRef<'_>) -> Option<u32>
     ensures { result ≡ bytes_of call.now }
 {

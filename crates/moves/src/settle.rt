@@ -35,7 +35,8 @@ fn move_on(stands: &mut Vec<u32>, rank: u16)
     stands[usize::from(rank)] += 1;
 }
 
-/// Wakes the rank that waits for a call as the partner of its own, which is told by its rank and its place, if one does.
+/// Wakes the rank that waits for a call as the partner of its own, if one does. The call is given by its rank and its
+/// place.
 #[inline(always)]
 fn wake_partner(waiters: &mut Waiters, partner: Option<(u16, u32)>)
     ensures { waiters.new ≡ woken_partner waiters.old partner }
@@ -116,7 +117,7 @@ fn wake_peers_of(world: &World, waiters: &mut Waiters, at: At, call: &CallAt<'_>
     }
 }
 
-/// The same, of a place where there may be no call.
+/// Wakes the ranks that wait for a message of the call at the place, if there is one.
 #[inline(always)]
 fn wake_peers(world: &World, waiters: &mut Waiters, at: At, call: &Option<CallAt<'_>>)
     requires call { IsCallIf world.now at call.now }

@@ -1,4 +1,4 @@
-//! Where ranks come to stand by a reading, and what that tells of every run.
+//! Where ranks come to stand by a reading, and what that says of every run.
 
 ghost use Rattle.moves.specs.Stands.{EveryMaximalRunEndsAtTheStands, NoRunBringsAStuckRankToItsEnd, EveryMaximalRunBringsTheOthers, LongerRecordingsLowerNoStand, NoCallBehindTheEndIsReached};
 

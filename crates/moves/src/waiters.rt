@@ -19,7 +19,7 @@ use std::alloc::{AllocError, Global};
 use std::marker::Model;
 
 /// The worklist, a list for each rank, where it waits for a partner, and one for each communicator, for the
-/// ranks that wait for its waves. A rank stands in one list at most.
+/// ranks that wait for its waves. A rank is in one list at most.
 pub(crate) struct Waiters {
     lists: Lists<u16>,
     awaited: Vec<u32>,

@@ -135,7 +135,8 @@ fn next_any(fields: &mut Fields<'_>) -> Option<Word>
     word_of(field)
 }
 
-/// The same; the most frequent ones first.
+/// Takes the first field off; answers the word of the format that it is, if it is one. The most frequent words are
+/// tried first.
 #[inline(always)]
 fn next_word(fields: &mut Fields<'_>) -> Option<Word>
     ensures { MatchOption result (fits_line fields.old ≡ false) (λ word. fields.old ≡ text_of word ∷ fields.new) }

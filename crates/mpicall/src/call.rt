@@ -40,7 +40,7 @@ pub enum Kind {
 /// and `reqs` are numbers that the recorder gave to requests.
 #[derive(Clone, Copy, PartialEq, Eq)]
 pub enum Call {
-    /// `bytes` is how many bytes the message has, where a standard send tells it.
+    /// `bytes` is how many bytes the message has, where a standard send says it.
     Send {
         mode: Mode,
         comm: u16,

@@ -1,5 +1,5 @@
-//! Readers and writers of std as devices, with a count of their failures. A device tells the bytes that its reader or
-//! writer tells, as those over memory do; what a file, a pipe or a terminal gives or takes is not told.
+//! Readers and writers of std as devices, with a count of their failures. A device says the bytes that its reader or
+//! writer says, as those over memory do; what a file, a pipe or a terminal gives or takes is not said.
 
 ghost use Rattle.std.specs.Prelude.{◌≡◌};
 

@@ -1,4 +1,4 @@
-//! Inputs and outputs of bytes. Each counts its failures, and one over memory also tells its bytes.
+//! Inputs and outputs of bytes. Each counts its failures, and one over memory also says its bytes.
 
 ghost use Rattle.std.specs.Prelude.{◌≡◌, ℕ, Option, List, OnOk, OnErr};
 ghost use Rattle.std.specs.Io.{ReadsAtMost, WritesAtMost};
@@ -12,7 +12,7 @@ use thiserror::Error;
 #[error("the device failed")]
 pub struct DeviceFault;
 
-/// What gives bytes: `left` are those still to come, where the input tells them, and `failures`
+/// What gives bytes: `left` are those still to come, where the input says them, and `failures`
 /// counts the reads that failed.
 pub trait Input {
     ghost left: { Self → Option (List ℕ) };
@@ -27,7 +27,7 @@ pub trait Input {
         ensures count { CountsFailure (failures self.old) (failures self.new) result };
 }
 
-/// What takes bytes: `written` are those taken so far, where the output tells them, and `failures`
+/// What takes bytes: `written` are those taken so far, where the output says them, and `failures`
 /// counts the writes that failed.
 pub trait Output {
     ghost written: { Self → Option (List ℕ) };
@@ -43,7 +43,7 @@ pub trait Output {
         ensures count { CountsFailure (failures self.old) (failures self.new) result };
 }
 
-/// Writes all the bytes, or a prefix of them and then tells the output's fault.
+/// Writes all the bytes, or a prefix of them and then answers the output's fault.
 pub fn write_all<O: Output>(output: &mut O, bytes: &[u8]) -> Result<(), DeviceFault>
     ensures ok { OnOk result (Appends (O.written output.old) (O.written output.new) bytes.now) }
     ensures fault { OnErr result (AppendsBeginning (O.written output.old) (O.written output.new) bytes.now) }

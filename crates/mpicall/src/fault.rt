@@ -18,7 +18,7 @@ pub enum LineFault {
     FieldCount,
     /// A field isn't in its form, or is out of its range.
     FieldForm,
-    /// `any` stands as the source or the tag of a receive, where the matched one must be recorded.
+    /// `any` is the source or the tag of a receive, where the matched one must be recorded.
     Wildcard,
     /// The line has more than 1,024 bytes, its line feed counted.
     TooLong,

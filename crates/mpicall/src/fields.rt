@@ -26,7 +26,7 @@ impl<'a> Model for Fields<'a> {
     ghost view = { λ f. split_some f.rest };
 }
 
-/// Where the first space of some bytes stands, if they have one.
+/// Where the first space of some bytes is, if they have one.
 #[inline(always)]
 fn space_at(bytes: &[u8]) -> Option<usize>
     ensures { result ≡ position (λ byte. byte == space) bytes.now }
@@ -59,7 +59,7 @@ impl<'a> Fields<'a> {
         Fields { rest: Some(body) }
     }
 
-    /// The same fields once more.
+    /// A copy of the fields.
     pub(crate) fn again(&self) -> Fields<'a>
         ensures { result ≡ self.now }
     {

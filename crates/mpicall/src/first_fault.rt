@@ -86,7 +86,7 @@ fn is_any(field: &[u8]) -> bool
     field == b"any".as_slice()
 }
 
-/// How many fields stand before a source.
+/// How many fields of the layout come before its source; None where it has no source.
 fn source_by(layout: Layout) -> Option<usize>
     ensures { result ≡ source_by layout }
 {
@@ -97,7 +97,7 @@ fn source_by(layout: Layout) -> Option<usize>
     }
 }
 
-/// The same after a word.
+/// How many fields come between the word and the source; None where a line with that word has no source.
 fn source_place(word: Word) -> Option<usize>
     ensures { result ≡ source_place word }
 {

@@ -17,7 +17,7 @@
 //!   were given as no record are less than a line, of at most 1,024 bytes, and none where the end record was
 //!   given. `Source::next_into` promises the same of a record that is read into a place of the caller's, and
 //!   changes that place only where it gives one.
-//! - `lint::lint` reads a source to its end and tells the number of its records, or the place and the
+//! - `lint::lint` reads a source to its end and answers the number of its records, or the place and the
 //!   fault of that end. The place of a read that failed is the number of the whole lines that came, by
 //!   `lint::each_whole_line_that_came_is_a_record`; and `lint::records_come_before_a_failed_read` is the law by
 //!   which others can add up what a source gave.
@@ -26,7 +26,7 @@
 //!   `memory::MemoryInput` gives pieces of a stated size.
 //! - Every call but `lint` returns, whatever the bytes are; a source may have no end.
 //!
-//! The definitions stand in `specs/`: `Number`, `Argument`, `Word`, `CallArgs` and `Spelling` say how a call is
+//! The definitions are in `specs/`: `Number`, `Argument`, `Word`, `CallArgs` and `Spelling` say how a call is
 //! spelled, `Limits` which calls are records, `Ending` which of them end a list, `Effect` what they do over
 //! their communicators, `Lines` and `Line` what is wrong with a line, `Trace` what the bytes of a source are,
 //! and `Device`, `Source` and `Lint` what a function does. What only proofs and private contracts cite is in

@@ -1,4 +1,4 @@
-//! Inputs and outputs over memory, which tell their bytes.
+//! Inputs and outputs over memory, which say their bytes.
 //!
 //! Growing is the only way in which an output over memory can fail. It counts that as a failed write, so
 //! that it meets the contract of every output. Inputs and outputs can also be asked for small pieces, so

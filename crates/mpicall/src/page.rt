@@ -144,7 +144,7 @@ impl Page {
         }
     }
 
-    /// Adds the bytes of a message, where they are told.
+    /// Adds how many bytes a message has, where that is said.
     fn push_bytes(&mut self, bytes: Option<u32>)
         requires { length self.old + 12 ≤ PAGE_BYTES }
         ensures value { self.new ≡ line_with self.old (bytes_arguments bytes) }

@@ -173,7 +173,7 @@ fn next_message(fields: &mut Fields<'_>) -> Option<(u16, Peer, u32)>
     Some((comm, peer, tag))
 }
 
-/// The bytes of a message, where they stand last; no other fields are left.
+/// The bytes of a message, where they are last; no other fields are left.
 #[inline(always)]
 fn last_bytes(fields: &mut Fields<'_>) -> Option<Option<u32>>
     ensures { MatchOption result
@@ -188,7 +188,7 @@ fn last_bytes(fields: &mut Fields<'_>) -> Option<Option<u32>>
     Some(Some(bytes))
 }
 
-/// A communicator, a peer and a tag, after which the bytes may stand last.
+/// A communicator, a peer and a tag, after which the bytes may be last.
 #[inline(always)]
 fn last_message(fields: &mut Fields<'_>) -> Option<(u16, Peer, u32, Option<u32>)>
     ensures { MatchOption result

@@ -41,7 +41,7 @@ impl Model for Record {
     ghost inverse = { λ c. record { call = c } };
 }
 
-/// Faults that hand a record back print it by this; `write_line` tells what it says.
+/// Faults that hand a record back print it by this; `write_line` writes what it says.
 impl fmt::Debug for Record {
     fn fmt<W: fmt::Write>(&self, f: &mut fmt::Formatter<W>) -> fmt::Result {
         f.write_str("Record")
@@ -102,7 +102,7 @@ fn is_key_in_range(key: i32) -> bool
     -2_147_483_648 <= key && key <= 2_147_483_647
 }
 
-/// Whether a send of the mode may tell so many bytes.
+/// Whether a send of the mode may say so many bytes.
 fn are_bytes_in_range(mode: Mode, bytes: Option<u32>) -> bool
     ensures { result ≡ (list_all is_in_range (bytes_arguments bytes) && may_tell mode bytes) }
 {

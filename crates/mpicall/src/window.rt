@@ -110,7 +110,7 @@ impl Window {
     }
 }
 
-/// Where the first line feed stands, which is no place before `from`.
+/// Where the first line feed is, which is no place before `from`.
 fn feed_at(bytes: &[u8], from: usize) -> Option<usize>
     requires within { from ≤ length bytes.now }
     requires before { NoFeedBelow bytes.now from }

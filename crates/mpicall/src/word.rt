@@ -37,7 +37,7 @@ pub enum Layout {
     Nothing,
     /// A communicator, a source and a tag.
     Message,
-    /// A communicator, a destination with its tag, a source with its tag, and the bytes that are sent, if they are told.
+    /// A communicator, a destination with its tag, a source with its tag, and how many bytes are sent, if that is said.
     Exchange,
     /// A request.
     Request,

@@ -19,6 +19,7 @@ pub(crate) struct Group {
     pub(crate) places: Vec<u16>,
 }
 
+// By hand: a derived drop is proved again at each exit of a function that owns one.
 impl Drop for Group {
     fn drop(self) {
         let Group {
@@ -62,7 +63,7 @@ impl Group {
     }
 }
 
-/// The place that an entry of a table tells, if there is one and it tells one.
+/// The place that an entry of a table has, if there is such an entry and it has one.
 fn told_place(entry: Option<u16>) -> Option<u16>
     ensures { result ≡ told_place entry }
 {

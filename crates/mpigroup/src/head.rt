@@ -28,6 +28,7 @@ pub struct Head {
     further: Vec<Group>,
 }
 
+// By hand: a derived drop is proved again at each exit of a function that owns one.
 impl Drop for Head {
     fn drop(self) {
         let Head {
@@ -53,6 +54,7 @@ impl Model for Head {
 pub fn front_decides(text: &[u8])
     ensures { read_head (take DECIDING_BYTES text.now) ≡ read_head text.now }
 {
+    // The contract alone speaks of the text; here it is used.
     let _text = text;
 }
 
@@ -112,6 +114,7 @@ impl Head {
         ensures world { group_of self.now 0 ≡ range_with_len 0 (ranks_of self.now) }
         ensures each { (comm : ℕ) → comm < length self.now → IsGroup (ranks_of self.now) (group_of self.now comm) }
     {
+        // For the proof: what the type says of the groups is known once one of its fields is read.
         let _further = &self.further;
     }
 

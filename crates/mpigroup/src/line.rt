@@ -17,7 +17,7 @@ use mpicall::fields::Fields;
 use mpicall::number::{is_canonical, read_number};
 use std::alloc::Global;
 
-/// Where the first line feed of a text stands, if it has one.
+/// Where the first line feed of a text is, if it has one.
 fn line_feed_at(text: &[u8]) -> Option<usize>
     ensures { result ≡ position (λ byte. byte == line_feed) text.now }
 {

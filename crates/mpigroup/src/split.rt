@@ -10,7 +10,7 @@ ghost use Rattle.mpigroup.specs.Splits.{members_from, members_in_order, member_c
 
 use std::alloc::{AllocError, Global};
 
-/// A member of the old group that gives a colour. Members stand in the order of these fields.
+/// A member of the old group that gives a colour. Members are in the order of these fields.
 #[derive(Clone, Copy, PartialEq, Eq, PartialOrd, Ord)]
 struct Member {
     colour: u32,
@@ -50,7 +50,7 @@ fn members_in_order(
     Ok(members)
 }
 
-/// Where the first member with another colour stands, if there is one.
+/// Where the first member with another colour is, if there is one.
 fn other_colour_at(members: &[Member], colour: u32) -> Option<usize>
     ensures { result ≡ position (λ member. not (member.colour == colour)) members.now }
 {

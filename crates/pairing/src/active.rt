@@ -1,6 +1,6 @@
 //! Which requests of a recording are active, by look-up.
 //!
-//! Each rank has 64 cells: a request stands in the cell of its number's remainder. So a program that uses
+//! Each rank has 64 cells: a request is in the cell of its number's remainder. So a program that uses
 //! its numbers again, or counts them up, needs no hash. If another request is in that cell, it goes into a
 //! table by `indexmap`, which is asked only while something is in it.
 
@@ -51,7 +51,7 @@ pub(crate) struct ActiveRequest {
 /// the same time however many calls there were, on average.
 #[derive(Drop)]
 pub(crate) struct Active {
-    // The cells of the ranks, in turn. A request stands in the cell of its number's remainder.
+    // The cells of the ranks, in turn. A request is in the cell of its number's remainder.
     cells: Vec<Option<ActiveRequest>>,
     // The requests that found another one in their cell.
     others: IndexMap<Request, u32>,
@@ -88,7 +88,7 @@ impl Active {
         }
     }
 
-    /// Empties the rank's cell of the request, if that stands there.
+    /// Empties the rank's cell of the request, if that is there.
     #[inline(always)]
     fn empty(&mut self, rank: u16, req: u32)
         ensures cells { (r q : ℕ) → place_at q (cell_in self.new r q) ≡ (if r == rank && req == q then None else place_at q (cell_in self.old r q)) }
@@ -116,7 +116,7 @@ impl Active {
         }
     }
 
-    /// Puts the rank's request into its cell, and answers whether no other stands there.
+    /// Puts the rank's request into its cell, and answers whether no other is there.
     #[inline(always)]
     fn fill(&mut self, rank: u16, req: u32, place: u32) -> bool
         ensures filled { result ≡ true → (r q : ℕ) → place_at q (cell_in self.new r q) ≡ (if r == rank && req == q then Some place else place_at q (cell_in self.old r q)) }
@@ -181,7 +181,7 @@ impl Active {
         self.start(rank, place, call);
     }
 
-    /// The place that started the rank's request as it stands, if it is active.
+    /// The place that started the rank's request, if it is active.
     #[inline(always)]
     pub(crate) fn start_of(&self, rank: u16, req: u32) -> Option<u32>
         ensures place { result ≡ place_in self.now rank req }

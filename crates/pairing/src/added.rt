@@ -1,4 +1,4 @@
-//! What is told of a call that was added, and why one is refused.
+//! What the adding of a call makes known, and why a call is refused.
 
 use crate::fault::CallFault;
 use thiserror::Error;

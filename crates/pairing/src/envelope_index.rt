@@ -3,7 +3,7 @@
 //! Envelopes are numbered by `indexmap` in the order of their first use. Before it is asked, one of 65,536
 //! cells is, which the envelope's fields choose: there is the number of the envelope of that cell that was
 //! looked up last. The envelope with that number is compared with the one that is asked for, so any number
-//! may stand in a cell.
+//! may be in a cell.
 //!
 //! A number that was given for a call which is then refused stays, with empty lists, which no look-up
 //! shows.
@@ -25,8 +25,8 @@ const ENVELOPE_CELLS: usize = 65_536;
 /// The envelopes that have numbers, from 0 on in the order in which they got them. Contracts see them.
 pub(crate) struct EnvelopeIndex {
     envelopes: IndexSet<Envelope>,
-    // The number of the envelope that was numbered or looked up last among those whose fields tell the cell, 0 at first.
-    // What is found there is compared with the envelope that has it, so that the cells may hold any numbers.
+    // The number of the envelope that was numbered or looked up last among those whose fields give the cell; 0 at
+    // first. What is found there is compared with the envelope that has it, so that the cells may hold any numbers.
     cells: Vec<u32>,
 }
 
@@ -89,7 +89,7 @@ impl EnvelopeIndex {
         self.envelopes.get_index_of(envelope)
     }
 
-    /// The number of an envelope, where it stands in its cell.
+    /// The number of an envelope, where it is in its cell.
     #[inline(always)]
     pub(crate) fn known(&self, envelope: &Envelope) -> Option<usize>
         ensures { IfSome result (λ number. number_in self.now envelope.now ≡ Some number) }
@@ -123,7 +123,7 @@ impl EnvelopeIndex {
         Ok(number)
     }
 
-    /// The number of an envelope, which has one from then on, and stands in its cell.
+    /// The number of an envelope, which has one from then on, and is in its cell.
     pub(crate) fn insert(&mut self, envelope: Envelope) -> Result<usize, AllocError>
         ensures ok { OnOk result (self.new ≡ insert_key same_envelope self.old envelope) }
         ensures number { IfOk result (λ number. number_in self.new envelope ≡ Some number) }

@@ -159,7 +159,7 @@ pub(crate) fn peers_exist(head: &Head, call: &NextCall<'_>) -> bool
     }
 }
 
-/// Whether no number stands twice.
+/// Whether no number is in the list twice.
 pub(crate) fn are_distinct(numbers: &[u32]) -> bool
     ensures { result ≡ are_distinct numbers.now }
 {

@@ -100,7 +100,8 @@ impl Kept {
         first_fault(&self.head, &self.tables, rank, call, before)
     }
 
-    /// Makes all the room that the rank's next call takes. All is said as before.
+    /// Makes all the room that the rank's next call takes. The notes stay, and what the
+    /// tables say of them.
     #[inline(always)]
     pub(crate) fn reserve(&mut self, rank: u16, call: &NextCall<'_>) -> Result<Room, AllocError>
         requires { rank < length self.old.notes.lists }
@@ -217,7 +218,7 @@ impl Kept {
         })
     }
 
-    /// What is told of the call at a place.
+    /// What the adding of the call at a place made known: its partners and its wave.
     pub(crate) fn added_at(&self, rank: u16, place: u32) -> Added
         requires { IsKept self.now.head self.now.notes.lists self.now.tables }
         ensures { result ≡ added_at (record { groups = self.now.head; recording = recording_of self.now.notes.lists }) rank place }

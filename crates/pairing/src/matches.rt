@@ -144,7 +144,7 @@ impl Matches {
         }
     }
 
-    /// The same, for a half that may have no message.
+    /// The envelope of a half with its number, which it has from then on; None where the half has no message.
     #[inline(always)]
     fn number_half(
         &mut self,

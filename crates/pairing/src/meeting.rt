@@ -58,7 +58,8 @@ fn meet_own(
     }
 }
 
-/// The same for a half that the call may not have.
+/// A half of a noted call meets the first pending other half of its envelope, or is pending itself; nothing changes
+/// where the call has no such half.
 #[inline(always)]
 fn meet_half(
     head: &Head,

@@ -132,7 +132,7 @@ impl Pairs {
         }
     }
 
-    /// Adds the next call of a rank, which comes to stand at `place`. It is refused exactly where it has a
+    /// Adds the next call of a rank, whose place is `place`. It is refused exactly where it has a
     /// fault, with the first one, or for lack of memory; and then all is as it was.
     pub fn admit(&mut self, rank: u16, place: u32, call: &Record) -> Result<(), PairFault>
         requires is_rank { rank < length self.old.recording }
@@ -149,8 +149,8 @@ impl Pairs {
         )
     }
 
-    /// Adds the next call of a rank by the same rules, and tells the partners that it has and the wave that
-    /// it joins.
+    /// Adds the next call of a rank by the same rules, and answers the partners that it has and the wave
+    /// that it joins.
     pub fn add(&mut self, rank: u16, place: u32, call: &Record) -> Result<Added, PairFault>
         requires is_rank { rank < length self.old.recording }
         requires is_next { place ≡ length (calls_of self.old.recording rank) }
@@ -214,7 +214,8 @@ impl Pairs {
         }
     }
 
-    /// The same with what the call means for the others, each looked up where it is asked for.
+    /// The call of a rank at a place with what it means for other calls, each looked up where it is asked for; None
+    /// where there is none.
     #[inline(always)]
     pub fn at(&self, rank: u16, place: u32) -> Option<CallAt<'_>>
         ensures call { option_map call_seen result ≡ slice_get (calls_of self.now.recording rank) place }
@@ -251,7 +252,7 @@ impl Pairs {
         self.probing.has_probes()
     }
 
-    /// The rank and place of the send that the probe at `place` sees; None where no probe stands there, and
+    /// The rank and place of the send that the probe at `place` sees; None where there is no probe, and
     /// where there is no such send yet.
     pub fn probed(&self, rank: u16, place: u32) -> Option<(u16, u32)>
         ensures { result ≡ probed_of self.now.groups self.now.recording rank place }
@@ -280,8 +281,8 @@ impl Pairs {
             .member_of(&self.kept.head, comm, wave, g)
     }
 
-    /// The place that started the request which the wait at `place` names; None where no such wait stands
-    /// there.
+    /// The place that started the request which the wait at `place` names; None where there is
+    /// no such wait.
     pub fn started(&self, rank: u16, place: u32, req: u32) -> Option<u32>
         ensures { result ≡ started_of self.now.recording rank place req }
     {

@@ -1,7 +1,7 @@
 //! Seats of probes.
 //!
 //! A probe (MPI 4.0, section 3.8) sees the send that the next receive of its envelope after it takes. So what
-//! is kept of a probe is where that receive stands, once it was called; before that the probe sees the first
+//! is kept of a probe is where that receive is, once it was called; before that the probe sees the first
 //! send that has no receive. Probes of one envelope between two of its receives see the same, and share a
 //! seat, which the next receive fills. No send is ever noted here.
 
@@ -93,7 +93,7 @@ impl Probes {
         seat
     }
 
-    /// Notes at the seat where the next receive stands.
+    /// Notes at the seat where the next receive is.
     fn fill(&mut self, seat: u32, place: u32)
         ensures seats { self.new.seats.items ≡ slice_set self.old.seats.items seat (Some place) }
         ensures unfilled { self.new.unfilled ≡ self.old.unfilled }
@@ -103,7 +103,7 @@ impl Probes {
         }
     }
 
-    /// The envelope's next receive stands at the place: it fills the seat of the probes since the last one.
+    /// The envelope's next receive is at the place: it fills the seat of the probes since the last one.
     fn follow(&mut self, envelope: Envelope, place: u32)
         ensures { Follows self.old self.new envelope place }
     {
@@ -112,7 +112,8 @@ impl Probes {
         }
     }
 
-    /// The same for the half of a call that may receive nothing.
+    /// Notes the call at the place, which is the next receive of the half's envelope: it fills the seat of the probes
+    /// since the last one. Nothing changes where the call receives nothing.
     #[inline(always)]
     pub(crate) fn receive(&mut self, half: &Option<NumberedEnvelope>, place: u32)
         ensures none { half.now ≡ None → self.new ≡ self.old }

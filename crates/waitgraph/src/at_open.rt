@@ -1,4 +1,4 @@
-//! What held ranks wait for: what is told of those at their opens, and how the walk goes on from each.
+//! What held ranks wait for: those at their opens, and how the walk goes on from each.
 
 ghost use Rattle.std.specs.Prelude.{◌≡◌, ◌<◌, ◌++◌, flat_map, length, map, option_map, slice_get, IfOk, OnOk};
 ghost use Rattle.std.specs.List.{range_with_len};
@@ -28,7 +28,7 @@ fn on_needs(alloc: Global, needs: &[Need]) -> Result<Vec<Awaited>, AllocError>
     needs.iter().map(|need| Awaited::Call(*need)).collect(alloc)
 }
 
-/// What is told of an item: the unmet needs of a request, or who is waited for if a message doesn't come.
+/// What is awaited by an item: the unmet needs of a request, or who is waited for if a message doesn't come.
 fn item_awaits(
     alloc: Global,
     scene: &Scene<'_>,
@@ -84,7 +84,7 @@ fn items_of<'a>(scene: &Scene<'a>, rank: u16) -> &'a [Item]
     }
 }
 
-/// What is told of some items, one after the other.
+/// What is awaited by some items, one after the other.
 fn items_await(
     alloc: Global,
     scene: &Scene<'_>,
@@ -136,7 +136,7 @@ fn is_at_open(scene: &Scene<'_>, rank: u16) -> bool
     }
 }
 
-/// What is told of a rank at its open that stays.
+/// What the rank waits for, where it stays at its open; nothing elsewhere.
 fn awaited_by(
     alloc: Global,
     scene: &Scene<'_>,
@@ -155,7 +155,7 @@ fn awaited_by(
     }
 }
 
-/// The same of each rank.
+/// What each rank waits for that stays at its open; nothing for the others.
 pub(crate) fn at_opens(
     alloc: Global,
     scene: &Scene<'_>,

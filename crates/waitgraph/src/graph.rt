@@ -101,7 +101,7 @@ pub(crate) fn waits_at(alloc: Global, world: &World, stands: &[u32]) -> Result<W
     Ok(waits)
 }
 
-/// What the needs of all ranks come to: who is held, how the walk goes on from each rank, and why.
+/// What the needs of all ranks come to: who is held, why, and whether some list was left open.
 struct Found {
     held: Vec<u16>,
     causes: Vec<Cause>,

@@ -1,4 +1,5 @@
-//! Who waits for whom in a run that was recorded whole, and why.
+//! Who waits for whom in a recorded run, and why. Lists may have been cut off, and then what is known of the calls that
+//! ranks were in counts too.
 //!
 //! What it promises, as contracts that are proved, by definitions of `specs/`:
 //!

@@ -49,6 +49,7 @@ pub(crate) fn ranks(scene: &Scene<'_>) -> u16
 pub(crate) fn ranks_are_few(scene: &Scene<'_>)
     ensures { length scene.now.world.now.pairs.recording < 65536 }
 {
+    // For the proof: the number of ranks is a u16, and that of the lists of calls.
     let _ranks = scene.world.pairs.head().ranks();
 }
 
@@ -96,7 +97,7 @@ pub(crate) fn comes(scene: &Scene<'_>, marks: &[bool], need: &Need) -> bool
     is_met(scene.stands, need) || !is_blocked(scene, marks, need)
 }
 
-/// The same where there is a need.
+/// Whether there is no need, or it is met, or may be though the ranks without a mark stay.
 fn is_none_or_comes(scene: &Scene<'_>, marks: &[bool], need: Option<Need>) -> bool
     ensures { result ≡ list_all (comes scene.now marks.now) (option_to_list need) }
 {
@@ -149,7 +150,8 @@ fn first_sink(head: &Head, sinks: &[Sink], envelope: &Envelope) -> Option<Sink>
     None
 }
 
-/// The same of a table of sinks: those of the rank to which the message goes are looked through.
+/// The first of the sinks in the table that may take a message of the envelope: those of the rank to which the message
+/// goes are looked through.
 fn first_to(head: &Head, sinks: &SinkTable<'_>, envelope: &Envelope) -> Option<Sink>
     ensures { result ≡ find (may_take head.now envelope.now) sinks.now }
 {
@@ -231,7 +233,8 @@ fn operation_comes(scene: &Scene<'_>, marks: &[bool], at: At, call: &CallAt<'_>)
         && wave_comes(scene, marks, at)
 }
 
-/// The same of the call at the place that started a request.
+/// Whether what the operation of the call at the place needs comes, where that call started a request; true where there
+/// is none.
 fn start_comes(scene: &Scene<'_>, marks: &[bool], rank: u16, start: Option<u32>) -> bool
     ensures { result ≡ list_all (comes scene.now marks.now) (request_needs scene.now.world.now.reading scene.now.world.now.pairs.groups scene.now.world.now.pairs.recording scene.now.sinks.now rank start) }
 {
@@ -244,7 +247,7 @@ fn start_comes(scene: &Scene<'_>, marks: &[bool], rank: u16, start: Option<u32>)
     }
 }
 
-/// The same of the request with that index among those that the call at the place completes.
+/// Whether what the request with that index needs comes, among those that the call at the place completes.
 fn request_comes(scene: &Scene<'_>, marks: &[bool], at: At, index: usize) -> bool
     ensures { result ≡ index_passes scene.now marks.now at index }
 {
@@ -256,7 +259,7 @@ fn request_comes(scene: &Scene<'_>, marks: &[bool], at: At, index: usize) -> boo
     )
 }
 
-/// And of each of them.
+/// Whether what each of the requests needs comes that the call at the place completes.
 fn requests_come(scene: &Scene<'_>, marks: &[bool], at: At, call: &CallAt<'_>) -> bool
     ensures { result ≡ list_all (index_passes scene.now marks.now at) (range_with_len 0 (length (completes (call_seen call.now)))) }
 {
@@ -320,7 +323,7 @@ fn source_comes(scene: &Scene<'_>, marks: &[bool], rank: u16, sender: u16) -> bo
     sender != rank && comes(scene, marks, &Need::Lacking { rank: sender })
 }
 
-/// The same of a member, by its rank in the group.
+/// Whether the member with that rank in the communicator's group is another rank that may go on to send.
 fn member_sends(scene: &Scene<'_>, marks: &[bool], rank: u16, comm: u16, g: u16) -> bool
     ensures { result ≡ member_may_send scene.now marks.now rank comm g }
 {
@@ -330,7 +333,7 @@ fn member_sends(scene: &Scene<'_>, marks: &[bool], rank: u16, comm: u16, g: u16)
     }
 }
 
-/// Whether one of the members of the communicator may.
+/// Whether one of the members of the communicator is another rank that may go on to send.
 fn members_send(scene: &Scene<'_>, marks: &[bool], rank: u16, comm: u16) -> bool
     ensures { result ≡ list_any (member_may_send scene.now marks.now rank comm) (range_with_len 0 (length (group_of scene.now.world.now.pairs.groups comm))) }
 {

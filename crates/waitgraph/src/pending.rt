@@ -87,7 +87,7 @@ pub fn without_pending_the_held_are_the_same()
 {}
 
 /// Each held rank stands where it does, whether sinks are met or not, however pending calls come back, and whatever
-/// calls stand behind them.
+/// calls come after them.
 #[tactic(auto, using(crate::proofs::PendingStaysLemmas::held_ranks_stay_by))]
 pub fn held_ranks_stay_by()
     ensures { HeldRanksStayBy }

@@ -14,6 +14,7 @@ pub(crate) struct SinkTable<'a> {
     by_rank: Vec<Vec<Sink>>,
 }
 
+// By hand: a derived drop is proved again at each exit of a function that owns one.
 impl<'a> Drop for SinkTable<'a> {
     fn drop(self) {
         let SinkTable { all: _, by_rank: _ } = self;
@@ -55,7 +56,7 @@ fn put(by_rank: &mut Vec<Vec<Sink>>, rank: u16, sink: Sink) -> Result<(), AllocE
     Ok(())
 }
 
-/// The same with its own rank, if there is such a rank.
+/// Adds the sink to those of its own rank, if there is such a rank.
 fn add(by_rank: &mut Vec<Vec<Sink>>, sink: &Sink) -> Result<(), AllocError>
     ensures len { length by_rank.new.items ≡ length by_rank.old.items }
     ensures more { OnOk result ((rank : ℕ) → rank < length by_rank.old.items → bucket by_rank.new.items rank ≡ bucket by_rank.old.items rank ++ (if sink.now.rank == rank then sink.now ∷ [] else [])) }

@@ -7,14 +7,14 @@ use moves::need::Need;
 use std::alloc::{AllocError, Global};
 use std::marker::Model;
 
-/// Where the needs of a rank stand among those of all.
+/// Where the needs of a rank are among those of all.
 #[derive(Clone, Copy)]
 struct Span {
     start: usize,
     end: usize,
 }
 
-/// What each rank waits for. Contracts see a list of needs for each rank. All needs stand in one list, so that they
+/// What each rank waits for. Contracts see a list of needs for each rank. All needs are in one list, so that they
 /// take no more room than their own.
 pub(crate) struct Waits {
     needs: Vec<Need>,

@@ -122,7 +122,7 @@ fn member_makes(pairs: &Pairs, comm: u16, wave: u32, new: u16, g: u16) -> bool
     }
 }
 
-/// The same of the member with a group rank, if there is one.
+/// Whether there is a member with that group rank, and its call in the wave makes the communicator.
 fn first_makes(pairs: &Pairs, comm: u16, wave: u32, new: u16, first: Option<u16>) -> bool
     ensures { result ≡ option_map_or (member_makes pairs.now.groups pairs.now.recording comm wave new) first false }
 {

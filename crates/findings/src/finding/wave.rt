@@ -63,7 +63,7 @@ fn stored_of_member(pairs: &Pairs, comm: u16, wave: u32, g: u16) -> Option<CallR
     pairs.call(rank, place)
 }
 
-/// The same as a record.
+/// The call in a wave of the member with rank `g` in the communicator's group, as a record.
 pub(crate) fn call_of_member(pairs: &Pairs, comm: u16, wave: u32, g: u16) -> Option<Record>
     ensures { result ≡ call_of_member pairs.now.groups pairs.now.recording comm wave g }
 {
@@ -157,7 +157,8 @@ fn are_alike_in_block(pairs: &Pairs, comm: u16, from: u32, count: usize) -> bool
     true
 }
 
-/// The same in all waves, block by block.
+/// Whether the calls of each member in all waves of the communicator are there, and alike to the first member's: looked
+/// at block by block.
 fn are_alike_in_comm(pairs: &Pairs, comm: u16) -> bool
     ensures { IsTrue result → (compared : Compared) →
         found_in_comm (comparison_of compared) pairs.now.groups pairs.now.recording comm ≡ [] }

@@ -42,7 +42,7 @@ fn is_sink_among(sinks: &[Sink], rank: u16, place: u32) -> bool
         .any(|sink| sink.rank == rank && sink.place == place)
 }
 
-/// The same of a table of sinks.
+/// Whether the place is that of one of the sinks in the table.
 fn is_sink_at(sinks: &SinkTable<'_>, rank: u16, place: u32) -> bool
     ensures { result ≡ is_sink_at sinks.now rank place }
 {
@@ -137,7 +137,7 @@ fn graph_by(alloc: Global, scene: &Scene<'_>) -> Result<Graph, AllocError>
     })
 }
 
-/// The same by the calls and stands.
+/// The wait graph of the calls and stands, where these pending calls and sinks are known.
 fn graph_with(
     alloc: Global,
     world: &World,
@@ -164,8 +164,8 @@ fn graph_with(
 impl Graph {
     /// The wait graph of a run of which more is known: by rank the calls in which ranks were when their lists were left
     /// open, and which receives a message may have met. Where the sinks fit the calls, each held rank stays where it
-    /// stands, whether sinks are met or not and however pending calls come back. Besides what `of` takes it takes
-    /// memory for the sends that no receive has, and for what held ranks wait for.
+    /// stands, whether sinks are met or not and however pending calls come back. In addition to what `of` takes
+    /// it takes memory for the sends that no receive has, and for what held ranks wait for.
     pub fn of_pending(
         alloc: Global,
         analyser: &Analyser,
