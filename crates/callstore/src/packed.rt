@@ -165,7 +165,7 @@ impl Packed {
     }
 
     /// What a call of a name does over its communicator; nothing for every other call.
-    fn plain_does(&self) -> Effect
+    fn plain_effect(&self) -> Effect
         ensures { result ≡ effect_of (unwrap_or (plain_of self.now) Finalize) }
     {
         match self.plain() {
@@ -206,7 +206,7 @@ impl Packed {
             },
             Packed::Wait { .. } | Packed::Waitall { .. } | Packed::Waitany { .. } => Effect::Local,
             // Taken apart and put together, so that what the other arms answer needs no place in memory.
-            _ => match self.plain_does() {
+            _ => match self.plain_effect() {
                 Effect::PointToPoint {
                     comm,
                     sent,
