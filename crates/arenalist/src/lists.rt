@@ -1,9 +1,9 @@
 //! Many lists in one arena.
 
-ghost use Rattle.std.specs.Prelude.{◌≡◌, ◌+◌, ◌-◌, ◌*◌, ◌<◌, ◌≤◌, ◌≢◌, ◌^◌, ◌↔◌, ℕ, [], ◌∷◌, ◌++◌, length, drop, slice_set, max, Some, None, IsSome, IsOk, IfOk, IfErr, IfSome, IfNone, OnOk, OnErr, OnSome};
+ghost use Rattle.std.specs.Prelude.{◌≡◌, ◌+◌, ◌-◌, ◌*◌, ◌<◌, ◌≤◌, ◌≢◌, ◌↔◌, ℕ, [], ◌∷◌, ◌++◌, length, drop, slice_set, max, Some, None, IsSome, IsOk, IfOk, IfErr, IfSome, IfNone, OnOk, OnErr, OnSome};
 ghost use Rattle.std.specs.Option.{ForSome};
 ghost use Rattle.std.specs.Borrow.{sem};
-ghost use Rattle.std.specs.Vec.{vec_len, vec_capacity};
+ghost use Rattle.std.specs.Vec.{vec_capacity};
 ghost use Rattle.arenalist.specs.Lends.{lends_value};
 ghost use Rattle.arenalist.specs.inner.Lends.{lends_slot};
 ghost use Rattle.arenalist.specs.Numbers.{list_at};

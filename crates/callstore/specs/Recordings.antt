@@ -1,7 +1,7 @@
 -- Recordings. A recording gives each rank of the world its trace: the list of its recorded calls. A call's
 -- place is its index in its rank's list, from 0.
 use Rattle.mpicall.specs.Names.{Rank}
-use Rattle.std.specs.Prelude.{◌≡◌, ℕ, ◌<◌, ◌-◌, Bool, true, false, List, [], ◌∷◌, ◌++◌, length, slice_get, slice_set}
+use Rattle.std.specs.Prelude.{◌≡◌, ◌<◌, ◌-◌, Bool, true, false, List, [], ◌∷◌, ◌++◌, length, slice_get, slice_set}
 use Rattle.std.specs.List.{list_any}
 use Rattle.std.specs.Option.{option_map_or}
 use Rattle.mpicall.specs.Ending.{ends_list}

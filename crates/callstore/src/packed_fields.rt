@@ -2,7 +2,7 @@
 //! and the bytes themselves.
 
 ghost use Rattle.std.specs.Prelude.{◌≡◌, ◌<◌, IfSome};
-ghost use Rattle.callstore.specs.inner.PackedFields.{no_rank, no_bytes, FitsPeer};
+ghost use Rattle.callstore.specs.inner.PackedFields.{no_bytes, FitsPeer};
 
 use mpicall::call::Peer;
 use std::marker::Model;

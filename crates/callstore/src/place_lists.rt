@@ -17,7 +17,6 @@ struct PlaceList {
 }
 
 impl Model for PlaceList {
-    ghost use Rattle.std.specs.Prelude.{length};
     ghost use Rattle.std.specs.Vec.{vec_capacity};
     ghost use Rattle.callstore.specs.inner.Seats.{Listed};
 

@@ -4,7 +4,7 @@
 //! The six words that come most often are tried first, byte by byte at the front of the line, before the
 //! end of the field is known.
 
-ghost use Rattle.std.specs.Prelude.{◌≡◌, ◌≤◌, [], ◌∷◌, true, false, List, ℕ, length, MatchOption, MatchBool};
+ghost use Rattle.std.specs.Prelude.{◌≡◌, ◌∷◌, true, false, length, MatchOption, MatchBool};
 ghost use Rattle.mpicall.specs.inner.Parsing.{ReadsBehind, ReadsFields, requests_fit, SpellsRequests};
 ghost use Rattle.mpicall.specs.inner.Line.{fits_line};
 ghost use Rattle.mpicall.specs.Word.{text_of};

@@ -1,9 +1,9 @@
 //! Inputs and outputs of bytes. Each counts its failures, and one over memory also says its bytes.
 
-ghost use Rattle.std.specs.Prelude.{◌≡◌, ℕ, Option, List, OnOk, OnErr};
+ghost use Rattle.std.specs.Prelude.{ℕ, Option, List, OnOk, OnErr};
 ghost use Rattle.std.specs.Io.{ReadsAtMost, WritesAtMost};
 ghost use Rattle.std.specs.Io.KnownBytes.{Appends, ReadConsumes, WriteAppends};
-ghost use Rattle.mpicall.specs.Device.{one_more, CountsFailure, MakesProgress, AppendsBeginning};
+ghost use Rattle.mpicall.specs.Device.{CountsFailure, MakesProgress, AppendsBeginning};
 
 use thiserror::Error;
 

@@ -1,9 +1,8 @@
 //! The fields of a line's body: what lies between its single spaces.
 
 ghost use Rattle.std.specs.Prelude.{◌≡◌, ◌≤◌, [], ◌∷◌, ◌==◌, None, Some, true, length, take, position, IfSome, MatchBool, MatchOption};
-ghost use Rattle.std.specs.List.{list_any};
 ghost use Rattle.mpicall.specs.Spelling.{space};
-ghost use Rattle.mpicall.specs.Lines.{split_fields, is_blank};
+ghost use Rattle.mpicall.specs.Lines.{split_fields};
 ghost use Rattle.mpicall.specs.inner.Lines.{is_empty};
 ghost use Rattle.mpicall.specs.Argument.{NumberUpTo, Number};
 ghost use Rattle.mpicall.specs.Parsing.{next_argument};

@@ -5,7 +5,7 @@
 
 ghost use Rattle.std.specs.Prelude.{◌≡◌, ◌≤◌, Some, false, length, take, drop};
 ghost use Rattle.std.specs.List.{list_any};
-ghost use Rattle.mpicall.specs.Line.{root_forms, operation_forms, shape_of, shape_by, takes_count, is_any, source_by, source_place, wildcard_at, fault_of_fields};
+ghost use Rattle.mpicall.specs.Line.{operation_forms, shape_of, shape_by, takes_count, is_any, source_by, source_place, wildcard_at, fault_of_fields};
 ghost use Rattle.mpicall.specs.inner.Line.{fits_line};
 ghost use Rattle.mpicall.specs.Lines.{is_blank};
 

@@ -4,10 +4,10 @@
 //! that it meets the contract of every output. Inputs and outputs can also be asked for small pieces, so
 //! that tests see texts cut at any place.
 
-ghost use Rattle.std.specs.Prelude.{◌≡◌, ◌+◌, ◌<◌, [], Some};
+ghost use Rattle.std.specs.Prelude.{◌≡◌, ◌<◌, [], Some};
 ghost use Rattle.std.specs.Io.{ReadsAtMost, WritesAtMost};
 ghost use Rattle.std.specs.Io.KnownBytes.{ReadConsumes, WriteAppends};
-ghost use Rattle.mpicall.specs.Device.{one_more, CountsFailure, MakesProgress};
+ghost use Rattle.mpicall.specs.Device.{CountsFailure, MakesProgress};
 
 use crate::device::{DeviceFault, Input, Output};
 use std::alloc::Global;

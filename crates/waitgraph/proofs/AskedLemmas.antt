@@ -1,12 +1,12 @@
 -- What pending calls wait for, and whether some waits for anything.
-use Rattle.std.proofs.Common.{◌≡◌, ℕ, zero, suc, ◌==◌, Bool, true, false, not, ◌||◌, Some, None, List, [], ◌∷◌, length, map, refl, sym, ap, ne_eqb, ◌∙◌}
-use Rattle.std.specs.List.{slice_get, list_any}
+use Rattle.std.proofs.Common.{◌≡◌, ℕ, zero, suc, ◌==◌, Bool, true, false, not, ◌||◌, Some, List, [], ◌∷◌, length, map, refl, sym, ap, ne_eqb, ◌∙◌}
+use Rattle.std.specs.List.{slice_get}
 use Rattle.std.specs.Option.{option_map_or}
 use Rattle.moves.specs.declared.reading.Reading.{Reading}
 use Rattle.moves.specs.declared.need.Need.{Need}
 use Rattle.mpigroup.specs.Groups.{Groups}
 use Rattle.callstore.specs.Recordings.{Lists}
-use Rattle.waitgraph.specs.Pending.{Part, PendingView, view_of, part_of, pass_all_or_one, pending_waits, is_over}
+use Rattle.waitgraph.specs.Pending.{PendingView, view_of, part_of, pass_all_or_one, pending_waits, is_over}
 use Rattle.waitgraph.specs.inner.Scenes.{is_asked, items_in, known_in}
 use Rattle.waitgraph.specs.declared.may_move.Scene.{Scene}
 use Rattle.waitgraph.specs.declared.pending.Item.{Item}

@@ -30,7 +30,7 @@ use Rattle.pairing.proofs.RankLemmas.{calls_past}
 use Rattle.moves.specs.declared.need.Need.{Need}
 use Rattle.moves.specs.declared.need.Need.TheVariants.{At, Lacking}
 use Rattle.moves.specs.Runs.{State, start}
-use Rattle.moves.specs.Needs.{half_need, half_needs, probe_need, probe_needs, member_need, wave_needs, sends_freely, is_met, can_move}
+use Rattle.moves.specs.Needs.{half_need, half_needs, probe_need, probe_needs, member_need, wave_needs, sends_freely, is_met}
 use Rattle.moves.specs.Stands.{stands_of, lowest_run_over}
 use Rattle.moves.proofs.OntoLemmas.{nth_need}
 use Rattle.moves.proofs.StandLemmas.{every_maximal_run_ends_at_the_stands, no_call_behind_the_end_is_reached}

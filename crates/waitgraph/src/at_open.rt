@@ -1,12 +1,9 @@
 //! What held ranks wait for: those at their opens, and how the walk goes on from each.
 
-ghost use Rattle.std.specs.Prelude.{◌≡◌, ◌<◌, ◌++◌, flat_map, length, map, option_map, slice_get, IfOk, OnOk};
+ghost use Rattle.std.specs.Prelude.{◌≡◌, ◌<◌, flat_map, length, map, option_map, IfOk};
 ghost use Rattle.std.specs.List.{range_with_len};
-ghost use Rattle.std.specs.Option.{option_map_or};
-ghost use Rattle.waitgraph.specs.Pending.{view_of};
 ghost use Rattle.waitgraph.specs.PendingNeeds.{item_awaits, item_blocks, is_at_open};
-ghost use Rattle.waitgraph.specs.inner.Causes.{Walks};
-ghost use Rattle.waitgraph.specs.inner.Scenes.{comes, staying, known_in, HasOpened, HasSpares, HasSparesIfAsked, items_in, awaited_by, present_by, blocks_by, held_up_in, hop_from_awaited, walks_by};
+ghost use Rattle.waitgraph.specs.inner.Scenes.{comes, staying, HasOpened, HasSpares, HasSparesIfAsked, items_in, awaited_by, present_by, blocks_by, held_up_in, hop_from_awaited, walks_by};
 ghost use Rattle.waitgraph.specs.declared.awaited.Awaited.TheVariants as awaited;
 
 use crate::awaited::Awaited;

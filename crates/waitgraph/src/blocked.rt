@@ -1,6 +1,6 @@
 //! What calls need and doesn't come while the ranks without a mark stay.
 
-ghost use Rattle.std.specs.Prelude.{◌≡◌, [], ◌++◌, Some, flat_map, map, option_to_list, slice_get, IfOk, OnOk};
+ghost use Rattle.std.specs.Prelude.{◌≡◌, ◌++◌, Some, flat_map, map, option_to_list, slice_get, IfOk, OnOk};
 ghost use Rattle.callstore.specs.Recordings.{calls_of};
 ghost use Rattle.callstore.specs.Requests.{completes, started_before};
 ghost use Rattle.mpigroup.specs.Groups.{group_of};
@@ -9,7 +9,7 @@ ghost use Rattle.moves.specs.Worlds.{IsSeenAt};
 ghost use Rattle.pairing.specs.Seen.{call_seen};
 ghost use Rattle.waitgraph.specs.Stuck.{needs_in_order};
 ghost use Rattle.waitgraph.specs.PendingNeeds.{brought_by, blocked, operation_blocks, request_blocks, call_blocks};
-ghost use Rattle.waitgraph.specs.inner.Scenes.{comes, sent_blocks, known_in};
+ghost use Rattle.waitgraph.specs.inner.Scenes.{comes, sent_blocks};
 
 use crate::may_move::{Scene, comes, sink_for};
 use crate::pending::Sink;

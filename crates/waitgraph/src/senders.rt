@@ -1,7 +1,7 @@
 //! Who is waited for by a rank that waits for a message.
 
 ghost use Rattle.std.specs.Prelude.{◌≡◌, ◌<◌, ◌++◌, ◌&&◌, ◌==◌, length, map, IfOk, OnOk};
-ghost use Rattle.std.specs.List.{filter, list_any, range_with_len};
+ghost use Rattle.std.specs.List.{filter, list_any};
 ghost use Rattle.pairing.specs.LeftOpen.{is_left_open};
 ghost use Rattle.waitgraph.specs.Pending.{is_wanted};
 ghost use Rattle.waitgraph.specs.PendingNeeds.{is_source, may_send, is_sender, senders_of, on_senders, message_awaits};
