@@ -55,14 +55,6 @@ impl<'a> CallRef<'a> {
         }
     }
 
-    /// The same call once more.
-    #[inline(always)]
-    pub fn again(&self) -> CallRef<'a>
-        ensures { result ≡ self.now }
-    {
-        CallRef::of(self.entry, self.entries, self.starts)
-    }
-
     /// The call as a record.
     pub fn record(&self) -> Record
         ensures { result ≡ self.now }

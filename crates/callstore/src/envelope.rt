@@ -6,11 +6,10 @@ ghost use Rattle.std.specs.Cmp.Rules.{hashing};
 ghost use Rattle.std.proofs.Common.{rules};
 ghost use Rattle.mpicall.specs.Effect.{effect_of};
 ghost use Rattle.mpicall.specs.declared.call.Call.{Call as CallValue};
-ghost use Rattle.callstore.specs.Envelopes.{other_half, message, message_by, message_of, probed_message, envelope_by, envelope_of, rank_of_half};
+ghost use Rattle.callstore.specs.Envelopes.{other_half, message, message_by, probed_message, envelope_by, envelope_of, rank_of_half};
 
-use mpicall::call::{Call, Peer};
+use mpicall::call::Peer;
 use mpicall::effect::{Effect, Side};
-use mpicall::record::Record;
 use mpigroup::head::Head;
 use std::hash::{Hash, Hasher};
 
@@ -107,14 +106,6 @@ pub(crate) fn message_by(half: Half, effect: &Effect) -> Option<Message>
     }
 }
 
-/// The message that a half of the call sends or receives. None where the call has no such half, and where
-/// its peer is MPI_PROC_NULL.
-pub fn message_of(half: Half, call: &Call) -> Option<Message>
-    ensures { result ≡ message_of half call.now }
-{
-    message_by(half, &call.effect())
-}
-
 /// The message that a call which does this probes for.
 #[inline(always)]
 pub(crate) fn probed_by(effect: &Effect) -> Option<Message>
@@ -160,14 +151,6 @@ pub(crate) fn envelope_in(head: &Head, rank: u16, half: Half, effect: &Effect) -
     let message = message_by(half, effect)?;
     let own = head.group_rank(message.comm, rank)?;
     Some(envelope_by(half, message, own))
-}
-
-/// The envelope of the message that a half of the rank's call sends or receives. None where the call
-/// has no such message, and where the rank is not in the communicator's group.
-pub fn envelope_of(head: &Head, rank: u16, half: Half, call: &Record) -> Option<Envelope>
-    ensures { result ≡ envelope_of head.now rank half call.now }
-{
-    envelope_in(head, rank, half, &call.as_call().effect())
 }
 
 /// The rank of the world whose calls have that half of the envelope's messages, if there is one.

@@ -6,9 +6,10 @@
 //! - `notes::Notes` has the noted calls of each rank, each with what is kept with it: the number of its wave or
 //!   the places of its partners, and at a wait the places that started its requests. What was noted is
 //!   answered again (`Notes`). `call_ref::CallRef` shows a call in its place.
-//! - `next_call::NextCall` is a call with what it does, found out once. `envelope` has messages and
-//!   their envelopes (`Envelopes`), `request` the requests of a call (`Requests`), `comm` the communicator that
-//!   a call makes (`Communicators`) and `wave` which wave it joins (`Waves`).
+//! - `next_call::NextCall` is a call with what it does, found out once. Of a call it and `CallRef` answer the
+//!   messages with their envelopes (`Envelopes`), the requests (`Requests`), the communicator that the call makes
+//!   (`Communicators`) and the one whose wave it joins (`Waves`); so do the functions of `envelope`, `request`
+//!   and `comm`.
 //! - `hot` numbers the kinds of calls that come often, for which the crates above have paths of their own.
 //! - `place_lists::PlaceLists` has lists of places by numbers.
 //! - Laws of waves, each on a function that does nothing: a wave has at most one call of each rank, and waves stay as

@@ -5,7 +5,6 @@ ghost use Rattle.mpicall.specs.Effect.{effect_of};
 ghost use Rattle.mpicall.specs.declared.call.Call.{Call as CallValue};
 ghost use Rattle.callstore.specs.Waves.{joins, AWaveHasOneCallOfEachRank, TheCallInAWaveJoinsIt, NoOtherCallIsInAWave, WavesStay};
 
-use mpicall::call::Call;
 use mpicall::effect::Effect;
 
 /// The communicator whose members all make a call that does this, if there is one.
@@ -17,13 +16,6 @@ pub(crate) fn joined_by(effect: &Effect) -> Option<u16>
         Effect::Joins { comm, .. } => Some(comm),
         _ => None,
     }
-}
-
-/// The communicator whose members all make the call, if there is one.
-pub fn joins(call: &Call) -> Option<u16>
-    ensures { result ≡ joins call.now }
-{
-    joined_by(&call.effect())
 }
 
 /// A wave has at most one call of each rank: two calls of a rank in one wave are one call.
