@@ -17,19 +17,19 @@ abbrev pub or_value : {T : Type 0} → Option T → Option T → Option T
 or_value None other = other
 or_value (Some v) other = Some v
 
--- the value at a node, in whichever list it stands; None where it stands in no list
+-- the value at a node, in whichever list it is; None where it is in no list
 abbrev pub value_at : {T : Type 0} → List (List (ℕ × T)) → ℕ → Option T
 value_at [] n = None
 value_at (list ∷ lists) n = or_value (value_in list n) (value_at lists n)
 
--- the node stands in the list, and in some list
+-- the node is in the list, and in some list
 abbrev pub HasNode : {T : Type 0} → List (ℕ × T) → ℕ → Type 0
 HasNode list n = IsSome (value_in list n)
 
 abbrev pub IsLinked : {T : Type 0} → List (List (ℕ × T)) → ℕ → Type 0
 IsLinked lists n = IsSome (value_at lists n)
 
--- how often a node stands in a list, and in the lists
+-- how often a node is in a list, and in the lists
 abbrev pub times_in : {T : Type 0} → List (ℕ × T) → ℕ → ℕ
 times_in [] n = 0
 times_in (entry ∷ list) n = (if n == entry.0 then 1 else 0) + times_in list n

@@ -1,5 +1,5 @@
 -- What is kept with a call: the wave that a collective joins, and where the partners of a message's halves
--- stand.
+-- are.
 use Rattle.mpicall.specs.Names.{Place}
 use Rattle.std.specs.Prelude.{ℕ, Option, Some, None}
 use Rattle.callstore.specs.declared.envelope.Half.{Half}

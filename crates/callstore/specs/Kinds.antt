@@ -11,7 +11,7 @@ mode_of (Send mode comm dest tag bytes) = Some mode
 mode_of (Isend req mode comm dest tag bytes) = Some mode
 mode_of _ = None
 
--- how many bytes a call that sends tells of its message
+-- how many bytes the message of a call that sends has, where the call says so
 abbrev pub bytes_told : Call → Option ℕ
 bytes_told (Send mode comm dest tag bytes) = bytes
 bytes_told (Isend req mode comm dest tag bytes) = bytes

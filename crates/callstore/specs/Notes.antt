@@ -46,7 +46,7 @@ calls_in notes = map (λ note. note.call) notes
 abbrev pub note_with : Half → Place → Noted → Noted
 note_with half there note = record { call = note.call; cached = with_partner half there note.cached; starts = note.starts }
 
--- the notes of a rank with the place of a partner with the call at the place, if one stands there
+-- the notes of a rank with the place of a partner with the call at the place, if there is one
 abbrev pub partnered_in : List Noted → Place → Half → Place → List Noted
 partnered_in notes place half there = option_map_or (λ note. slice_set notes place (note_with half there note)) (slice_get notes place) notes
 
@@ -76,12 +76,12 @@ HasRoom notes rank call = Holds (unwrap_or (slice_get notes.rooms rank) no_room)
 abbrev pub request_among : List Call → Place → Option Request
 request_among calls place = option_and_then starts (slice_get calls place)
 
--- the places are starts of the wait after the calls: at each stands the call that starts the request which
+-- the places are starts of the wait after the calls: at each is the call that starts the request which
 -- the wait names there
 abbrev pub AreStarts : List Call → Call → List Place → Type 0
 AreStarts calls wait places = map (request_among calls) places ≡ map (λ req. Some req) (waits_for wait)
 
--- what stands with the requests that a wait completes, of what stands with those that it names
+-- what is kept with the requests that a wait completes, of what is kept with those that it names
 abbrev pub completed_among : Call → List ℕ → List ℕ
 completed_among (Waitany chosen reqs) cached = take 1 (drop chosen cached)
 completed_among _ cached = cached
@@ -90,6 +90,6 @@ completed_among _ cached = cached
 abbrev pub completed_starts : Noted → List Place
 completed_starts note = completed_among note.call note.starts
 
--- the place that started a request which a wait names: it stands with the first such number
+-- the place that started a request which a wait names: it is kept with the first such number
 abbrev pub start_of : Noted → Request → Option Place
 start_of note req = option_and_then (slice_get note.starts) (position (λ other. other == req) (waits_for note.call))

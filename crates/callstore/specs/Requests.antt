@@ -1,5 +1,5 @@
 -- Requests (MPI 4.0, section 3.7). A nonblocking call starts a request, and a wait completes it. A number
--- may stand for another request once it was completed. All this is told by the rank's own list.
+-- may stand for another request once it was completed. All this follows from the rank's own list.
 use Rattle.mpicall.specs.Names.{Rank, Place, Request}
 use Rattle.std.specs.Prelude.{◌≡◌, ℕ, ◌+◌, ◌-◌, ◌==◌, Bool, true, false, Option, Some, None, option_and_then, is_some, if◌then◌else◌, List, [], ◌∷◌, length, take, drop, slice_get}
 use Rattle.std.specs.List.{list_any}

@@ -182,7 +182,7 @@ member_makes groups recording comm wave new g =
     option_map_or (does_make new) (call_of_member groups recording comm wave g) false
 
 -- the new communicator has the given group by the head, and the group's first member names it as well; that
--- member is told by its rank in the old group
+-- member is given by its rank in the old group
 abbrev pub is_given : Groups → Lists → Comm → Wave → Comm → List Rank → Option ℕ → Bool
 is_given groups recording comm wave new group first =
     bytes_eq (group_of groups new) group && option_map_or (member_makes groups recording comm wave new) first false

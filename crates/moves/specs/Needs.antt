@@ -5,7 +5,7 @@
 -- synchronise (section 6.1), and no reading counts on either. A call that starts a request needs
 -- nothing (section 3.7.2); a wait needs what the calls that it completes need (section 3.7.3). MPI_Probe needs
 -- the send that the next receive of its envelope would get (section 3.8.1). MPI_Finalize is a rank's last call
--- (section 11.2.2), and the record of a list that was cut off stands in its place: each needs nothing, and no
+-- (section 11.2.2), and the record of a list that was cut off is in its place: each needs nothing, and no
 -- rank moves past it.
 use Rattle.mpicall.specs.Names.{Rank, Place, Comm, Wave, Request}
 use Rattle.moves.specs.declared.reading.Reading.{Reading}
@@ -73,7 +73,7 @@ is_buffered (Send Buffered comm dest tag bytes) = true
 is_buffered (Isend req Buffered comm dest tag bytes) = true
 is_buffered _ = false
 
--- the bytes that a call sends in standard mode, where they are told
+-- how many bytes a call sends in standard mode, where it says so
 abbrev pub bytes_of : Call → Option ℕ
 bytes_of (Send Standard comm dest tag bytes) = bytes
 bytes_of (Isend req Standard comm dest tag bytes) = bytes

@@ -1,4 +1,4 @@
--- Where the ranks of a run come to stand by one of this project's readings of MPI, and what that tells of
+-- Where the ranks of a run come to stand by one of this project's readings of MPI, and what that says of
 -- every run.
 use Rattle.mpicall.specs.Names.{Rank}
 use Rattle.moves.specs.declared.reading.Reading.{Reading}

@@ -9,7 +9,7 @@ use Rattle.mpicall.specs.declared.limits.TheConstants.{GREATEST_COMM, GREATEST_R
 use Rattle.mpicall.specs.declared.call.Peer.{Peer}
 use Rattle.mpicall.specs.declared.call.Peer.TheVariants as peer
 
--- a number with the greatest that may stand in its place, a peer, a colour or none, a key, and the new
+-- a number with the greatest that may be in its place, a peer, a colour or none, a key, and the new
 -- communicator of a split or none
 pub data Argument : Type 0 where
   Number : ℕ → ℕ → Argument
@@ -30,7 +30,7 @@ request_argument req = Number GREATEST_REQUEST req
 abbrev pub bytes_argument : ℕ → Argument
 bytes_argument bytes = Number GREATEST_BYTES bytes
 
--- the bytes of a message, where they are told
+-- how many bytes a message has, where that is said
 abbrev pub bytes_arguments : Option ℕ → List Argument
 bytes_arguments None = []
 bytes_arguments (Some bytes) = bytes_argument bytes ∷ []

@@ -1,4 +1,4 @@
--- Inputs and outputs: what their calls do to the bytes that they tell, and to their counts of failures.
+-- Inputs and outputs: what their calls do to the bytes that they say, and to their counts of failures.
 use Rattle.std.specs.Prelude.{◌≡◌, ℕ, ◌+◌, ◌-◌, ◌^◌, ◌<◌, min, Bool, if◌then◌else◌, Option, Result, IfOk, MatchResult, List, length, take}
 use Rattle.std.specs.Io.KnownBytes.{Appends}
 

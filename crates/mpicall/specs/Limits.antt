@@ -26,12 +26,12 @@ pub record TheLimitsOfATrace : Type 0 where
 abbrev pub few_enough : List Request → Bool
 few_enough reqs = nat_le 1 (length reqs) && nat_le (length reqs) MOST_REQUESTS
 
--- a standard send alone may tell its bytes
+-- a standard send alone may say its bytes
 abbrev pub may_tell : Mode → Option ℕ → Bool
 may_tell Standard bytes = true
 may_tell mode bytes = is_none bytes
 
--- a wait for several requests names some, and not too many, and a send that isn't standard tells no bytes
+-- a wait for several requests names some, and not too many, and a send that isn't standard says no bytes
 abbrev pub names_enough : Call → Bool
 names_enough (Waitall reqs) = few_enough reqs
 names_enough (Waitany chosen reqs) = few_enough reqs

@@ -86,7 +86,7 @@ all_in_form Chosen (index ∷ requests) = is_in_form (index_form (length request
 abbrev pub is_any : List ℕ → Bool
 is_any field = bytes_eq field (codes "any")
 
--- how many fields stand before a source, after which its tag stands
+-- how many fields come before a source, after which its tag comes
 abbrev pub source_by : Layout → Option ℕ
 source_by Message = Some 1
 source_by Exchange = Some 3
@@ -99,7 +99,7 @@ source_place (Started Recv) = Some 2
 source_place (Named name) = source_by (layout_of name)
 source_place _ = None
 
--- a wildcard stands as the source or the tag of a receive
+-- a wildcard is the source or the tag of a receive
 abbrev pub wildcard_at : Option ℕ → List (List ℕ) → Bool
 wildcard_at None fields = false
 wildcard_at (Some place) fields = list_any is_any (take 2 (drop place fields))

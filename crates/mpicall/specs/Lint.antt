@@ -1,4 +1,4 @@
--- What is told of a source that is read to its end.
+-- What is answered of a source that is read to its end.
 use Rattle.mpicall.specs.Names.{Place}
 use Rattle.std.specs.Prelude.{◌≡◌, ℕ, ◌-◌, ◌^◌, ◌≤◌, min, Option, Some, None, Result, Ok, Err, List, length, ⊤}
 use Rattle.mpicall.specs.Source.{IsCutOff}

@@ -22,7 +22,7 @@ trace_at Ended bytes = option_map (λ behind. ends_here (end_with_behind (lines_
 trace_at Done bytes = Some (ends_here Sealed)
 trace_at (Failed fault) bytes = Some (ends_here (Torn fault))
 
--- the same of a source, where its input tells the bytes that are left
+-- the same of a source, where its input says the bytes that are left
 unfoldable pub coming : {I : Type 0} → (I → Option (List ℕ)) → Source I → Option Trace
 coming left source = trace_at source.stage (prepend_known source.window (left source.input))
 
@@ -75,12 +75,12 @@ CutsOff stage None left calls = ⊤
 CutsOff stage (Some text) left calls =
     (came : List ℕ) × Consumes (Some text) left came × IfSome (trace_at stage (Some came)) (BreaksOffBehind calls)
 
--- the same of a source whose input failed, where it tells its bytes: these are the records of what came of the bytes
+-- the same of a source whose input failed, where it says its bytes: these are the records of what came of the bytes
 -- that the source had not used before. After them came less than a line, and nothing after an end record
 abbrev pub IsCutOff : {I : Type 0} → (I → Option (List ℕ)) → Source I → Source I → List Call → Type 0
 IsCutOff left old new calls = CutsOff old.stage (unread left old) (left (input_of new)) calls
 
--- the end that an answer tells
+-- the end that an answer gives
 abbrev pub end_of_answer : Result (Option Call) SourceFault → Option Ending
 end_of_answer (Ok (Some call)) = None
 end_of_answer (Ok None) = Some Sealed

@@ -1,4 +1,4 @@
--- How the faults of a head are told.
+-- How the faults of a head are reported.
 use Rattle.std.specs.Prelude.{◌≡◌, ℕ, Result, Err, List, ◌++◌, codes, ⊤}
 use Rattle.std.specs.Fmt.{decimal}
 use Rattle.mpigroup.specs.declared.fault.HeadFault.{HeadFault}
@@ -28,7 +28,7 @@ words_of_head LineForm = codes "line length or end"
 abbrev pub text_of_head : HeadFault → List ℕ
 text_of_head fault = codes "line " ++ decimal fault.line ++ codes " " ++ code_of_head fault.kind ++ codes " " ++ words_of_head fault.kind
 
--- a fault that is told of a text is the one that the text has; lack of memory says nothing of it
+-- a fault that is reported of a text is the one that the text has; lack of memory says nothing of it
 abbrev pub IsHeadFaultOf : {T : Type 0} → Result T HeadFault → ReadFault → Type 0
 IsHeadFaultOf reading (Text fault) = reading ≡ Err fault
 IsHeadFaultOf reading Memory = ⊤

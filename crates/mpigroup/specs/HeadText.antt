@@ -39,7 +39,7 @@ ranks_of_fields _ = Err FirstLine
 abbrev pub ranks_of_line : List ℕ → Result ℕ HeadFaultKind
 ranks_of_line line = if is_head_line line then ranks_of_fields (split_fields (body_of line)) else Err LineForm
 
--- some number stands twice
+-- some number is in the list twice
 abbrev pub has_twice : List ℕ → Bool
 has_twice [] = false
 has_twice (x ∷ xs) = list_any (λ y. y == x) xs || has_twice xs

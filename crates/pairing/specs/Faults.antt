@@ -65,7 +65,7 @@ peers_exist groups call = by_what (effect_of call)
 abbrev pub starts_afresh : List Call → Call → Bool
 starts_afresh calls call = option_map_or (λ req. not (is_active calls req)) (starts call) true
 
--- no number stands twice
+-- no number is in the list twice
 abbrev pub are_distinct : List ℕ → Bool
 are_distinct [] = true
 are_distinct (number ∷ numbers) = not (is_among number numbers) && are_distinct numbers

@@ -1,4 +1,4 @@
--- Pending halves of messages: those that have no partner yet stand in lists, by the numbers of their
+-- Pending halves of messages: those that have no partner yet are in lists, by the numbers of their
 -- envelopes, and the partners of the others are kept with them.
 use Rattle.mpicall.specs.Names.{Place}
 use Rattle.std.specs.Prelude.{List, [], length, drop}

@@ -1,4 +1,4 @@
--- What `Pairs` keeps and what it tells of a call that it adds.
+-- What `Pairs` keeps and what it answers of a call that it adds.
 use Rattle.mpicall.specs.Names.{Rank, Place, Request}
 use Rattle.std.specs.Prelude.{◌≡◌, ℕ, Option, Some, None, option_map, option_and_then, slice_get}
 use Rattle.mpicall.specs.declared.call.Call.{Call}
@@ -29,7 +29,7 @@ joined_at pairs rank place =
     option_map (λ wave. record { comm = wave.0; wave = wave.1; is_full = is_full pairs.groups pairs.recording wave.0 wave.1 })
     (wave_of pairs.recording rank place)
 
--- what is told of the call at a place, over what was added: the partners of its halves, and its wave
+-- what is answered of the call at a place, over what was added: the partners of its halves, and its wave
 abbrev pub added_at : Paired → Rank → Place → Added
 added_at pairs rank place = record {
   send = partner_of pairs.groups pairs.recording rank place SendHalf;
@@ -37,7 +37,7 @@ added_at pairs rank place = record {
   wave = joined_at pairs rank place;
 }
 
--- a refusal tells the first fault of the call, or that memory ran out for a call without a fault
+-- a refusal gives the first fault of the call, or that memory ran out for a call without a fault
 abbrev pub TellsFault : Option CallFault → PairFault → Type 0
 TellsFault first (Refused fault) = first ≡ Some fault
 TellsFault first Memory = first ≡ None

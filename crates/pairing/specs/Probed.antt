@@ -26,7 +26,7 @@ probed_envelope_at groups recording rank place = option_and_then (probed_envelop
 abbrev pub probed_by : Groups → Lists → Rank → Place → Envelope → Option (Rank × Place)
 probed_by groups recording rank place e = numbered groups recording SendHalf e (number_of groups recording rank RecvHalf e place)
 
--- the rank and place of the send that the probe at a place sees; none where no probe stands there, and where there
+-- the rank and place of the send that the probe at a place sees; none where no probe is there, and where there
 -- is no such send yet
 abbrev pub probed_of : Groups → Lists → Rank → Place → Option (Rank × Place)
 probed_of groups recording rank place = option_and_then (probed_by groups recording rank place) (probed_envelope_at groups recording rank place)

@@ -51,7 +51,7 @@ one_list_more {A} {B} f xs i d so_far more later within before is added =
     ∙ ap (λ (ys : List B). flat_map f (take i xs) ++ ys) (is ∙ sym (append-nil (f (get_or xs i d))))
     ∙ sym (ap (flat_map f) (take_more xs i d within) ∙ flat_map-append f (take i xs) (get_or xs i d ∷ []))
 
--- one element more behind others
+-- one element more after others
 pub one_more_behind : {A B : Type 0} (f : A → B) (xs : List A) (i : ℕ) (d : A) (old so_far later : List B) → i < length xs → so_far ≡ old ++ map f (take i xs) → later ≡ so_far ++ f (get_or xs i d) ∷ [] → later ≡ old ++ map f (take (i + 1) xs)
 one_more_behind {A} {B} f xs i d old so_far later within before added =
     added

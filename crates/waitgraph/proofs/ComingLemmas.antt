@@ -162,7 +162,7 @@ module _ (reading : Reading) (groups : Groups) (recording later : Lists) (known 
   or_back k call pending (inl is) = inl is
   or_back k call pending (inr b) = inr b.0
 
-  -- a call of a rank of the set that is reached behind its open is the first there
+  -- a call of a rank of the set that is reached after its open is the first there
   pub record First (k there : ℕ) (call : Call) : Type 0 where
     pub at : AtPending k
     pub is_first : there ≡ length (calls_before_open recording k)
@@ -181,7 +181,7 @@ module _ (reading : Reading) (groups : Groups) (recording later : Lists) (known 
   sunk_never k test number there quiet sunk =
       false≢true (sym (ap test sunk.met.is_receive ∙ quiet.blind sunk.met.req sunk.met.comm (peer.Rank sunk.met.source) sunk.met.tag) ∙ sunk.passes)
 
-  -- where such a call is reached later: in the recording too, or behind the open of a rank outside the set
+  -- where such a call is reached later: in the recording too, or after the open of a rank outside the set
   pub reached_back : (t : State) → Bound t → (k : ℕ) (test : Call → Bool) → Quiet test → (number there : ℕ) → slice_get (places test (calls_of later k)) number ≡ Some there → there ≤ get_or t k 0 → (slice_get (places test (calls_of recording k)) number ≡ Some there) ⊎ ((set k ≡ false) × (is_left_open recording k ≡ true))
   reached_back t bound k test quiet number there found reached = by_back (back recording later known fits h k test (kept.quiet_mild reading groups recording later known fits h k test quiet) number there found)
     where
@@ -601,7 +601,7 @@ module _ (reading : Reading) (groups : Groups) (recording later : Lists) (known 
 
   -- Messages that a pending call waits for.
 
-  -- no receive has the number that a later one has behind all of them
+  -- no receive has the number that a later one has after all of them
   none_later : (r x number : ℕ) (e : Envelope) → number ≡ number_of groups later r RecvHalf e x → ((p : ℕ) (call : Call) → x ≤ p → p < length (calls_before_open recording r) → slice_get (calls_of recording r) p ≡ Some call → has_envelope groups r RecvHalf e call ≡ true → ⊥) → slice_get (places (has_envelope groups r RecvHalf e) (calls_of recording r)) number ≡ None
   none_later r x number e count behind = by_slot (slice_get (places (has_envelope groups r RecvHalf e) (calls_of recording r)) number) refl
     where

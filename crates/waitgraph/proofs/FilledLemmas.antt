@@ -220,7 +220,7 @@ module _ (recording later : Lists) (known : Known) (fits : FitsSinks recording k
           let null = was_null k there before after met was within in
           absurd (false≢true (sym (mild.null_fails null.0 null.1 null.2) ∙ ap test (sym null.3) ∙ ap test is ∙ passes))
 
-  -- a call that passes behind the place of an open
+  -- a call that passes after the place of an open
   pub record Past (k : ℕ) (test : Call → Bool) (there : ℕ) : Type 0 where
     pub is_open : is_left_open recording k ≡ true
     pub is_past : length (calls_before_open recording k) ≤ there
@@ -238,7 +238,7 @@ module _ (recording later : Lists) (known : Known) (fits : FitsSinks recording k
     pub passes : test after ≡ true
     pub none : slice_get (places test (calls_of recording k)) number ≡ None
 
-  -- the call that passes with the number later: the same, or one behind an open, or in a sink's place
+  -- the call that passes with the number later: the same, or one after an open, or in a sink's place
   pub back : (k : ℕ) (test : Call → Bool) → Mild k test → (number there : ℕ) → slice_get (places test (calls_of later k)) number ≡ Some there → (slice_get (places test (calls_of recording k)) number ≡ Some there) ⊎ (Past k test there ⊎ Sunk k test number there)
   back k test mild number there found = by_old (slice_get (places test (calls_of recording k)) number) refl
     where

@@ -132,7 +132,7 @@ all_of_which_one_is_held : three
     [] ≡ 0 ∷ 1 ∷ []
 all_of_which_one_is_held = refl
 
--- a sink behind the stand of a held rank takes nothing
+-- a sink after the stand of a held rank takes nothing
 a_sink_behind_the_stand_of_a_held_rank : two
     ((Recv 0 (Rank 1) 5 ∷ Irecv 0 0 Null 0 ∷ Open ∷ []) ∷ (Send Standard 0 (Rank 0) 4 None ∷ Open ∷ []) ∷ [])
     []

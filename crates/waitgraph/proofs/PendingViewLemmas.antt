@@ -153,7 +153,7 @@ module _ (groups : Groups) (rank place : ℕ) (call : Call) where
       by_envelope None none = inl (λ R present. rw (present, none) refl)
       by_envelope (Some e) has = by_rank e has (rank_of_half groups SendHalf e) refl
 
--- the first of what is behind
+-- the first of what comes after
 pub get_back : {A : Type 0} (xs ys : List A) → slice_get (xs ++ ys) (length xs) ≡ slice_get ys 0
 get_back [] ys = refl
 get_back (x ∷ xs) ys = get_back xs ys

@@ -73,7 +73,7 @@ pub record ComesTo (next : ℕ → Option ℕ) (missing : ℕ → Option CauseVi
   pub comes_there : after_steps next steps rank ≡ Some end
   pub is_end : IsEnd next missing end cause
 
--- the cause stands in the list
+-- the cause is in the list
 abbrev pub IsListed : CauseView → List CauseView → Type 0
 IsListed cause causes = (index : ℕ) × (slice_get causes index ≡ Some cause)
 

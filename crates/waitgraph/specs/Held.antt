@@ -1,4 +1,4 @@
--- Ranks that stay where they stand, whatever calls stand in the place of an open: those of a deadlocked set.
+-- Ranks that stay where they stand, whatever calls come in the place of an open: those of a deadlocked set.
 use Rattle.mpicall.specs.Names.{Rank}
 use Rattle.moves.specs.declared.reading.Reading.{Reading}
 use Rattle.std.specs.Prelude.{◌≡◌, ◌↔◌, ℕ, Bool, true, false, not, ◌&&◌, ◌||◌, List, length, slice_index}

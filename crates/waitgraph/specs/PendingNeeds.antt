@@ -1,4 +1,4 @@
--- What held ranks wait for where pending calls and sinks are known: what is told of those at their open, and what of it
+-- What held ranks wait for where pending calls and sinks are known: what those at their open wait for, and what of it
 -- can't come.
 use Rattle.mpicall.specs.Names.{Rank, Place}
 use Rattle.moves.specs.declared.reading.Reading.{Reading}
@@ -83,7 +83,7 @@ abbrev pub message_awaits : (Need → Bool) → Groups → Lists → Set → Ran
 message_awaits comes groups recording held rank wanted =
     if list_any comes (ways_of groups recording rank wanted) then [] else on_senders (senders_of groups recording held rank wanted)
 
--- what is told of an item: that, or the unmet needs of the request in order and each once
+-- what is awaited by an item: that, or the unmet needs of the request in order and each once
 abbrev pub item_awaits : (Need → Bool) → Reading → Groups → Lists → State → Set → Rank → Item → List Awaited
 item_awaits comes reading groups recording stands held rank (item.Message wanted) = message_awaits comes groups recording held rank wanted
 item_awaits comes reading groups recording stands held rank (item.Request req) =
@@ -103,7 +103,7 @@ items_of known rank = option_map_or (λ call. call.items) (slice_get known.pendi
 abbrev pub is_at_open : Lists → State → Rank → Bool
 is_at_open recording stands rank = option_map_or leaves_open (slice_get (calls_of recording rank) (slice_index stands rank)) false
 
--- what is told of a held rank at its open, item by item
+-- what a held rank at its open waits for, item by item
 abbrev pub awaited_at : Reading → Groups → Lists → Known → State → Set → Rank → List Awaited
 awaited_at reading groups recording known stands held rank =
     if held rank && is_at_open recording stands rank

@@ -1,5 +1,5 @@
--- What stays where lists go on that were left open: sinks are met or not, pending calls come back or not, and behind
--- them any calls stand.
+-- What stays where lists go on that were left open: sinks are met or not, pending calls come back or not, and after
+-- them any calls come.
 use Rattle.mpicall.specs.Names.{Rank, Place, Comm, Tag, Request}
 use Rattle.moves.specs.declared.reading.Reading.{Reading}
 use Rattle.std.specs.Prelude.{◌≡◌, ℕ, ◌<◌, ◌⊎◌, Bool, true, false, Some, option_and_then, List, [], ◌++◌, length, slice_get, slice_index}
@@ -22,7 +22,7 @@ use Rattle.waitgraph.specs.declared.pending.Item.TheVariants as item
 use Rattle.waitgraph.specs.declared.pending.Sink.{Sink}
 use Rattle.waitgraph.specs.declared.pending.Wanted.{Wanted}
 
--- in the sink's place stands the start of a receive from nobody, whose request is active at the end
+-- in the sink's place is the start of a receive from nobody, whose request is active at the end
 pub record HasItsPlace (recording : Lists) (sink : Sink) : Type 0 where
   pub req : Request
   pub comm : Comm
@@ -36,7 +36,7 @@ HasMessage recording rank place m =
     (option_and_then (message_of RecvHalf) (slice_get (calls_of recording rank) place) ≡ Some m)
     ⊎ (option_and_then probed_message (slice_get (calls_of recording rank) place) ≡ Some m)
 
--- the sinks fit the recording: each has its place, those of a rank are in order, and no receive or probe behind a sink
+-- the sinks fit the recording: each has its place, those of a rank are in order, and no receive or probe after a sink
 -- is of a message that the sink may take
 pub record FitsSinks (recording : Lists) (sinks : List Sink) : Type 0 where
   pub have_places : (index : ℕ) (sink : Sink) → slice_get sinks index ≡ Some sink → HasItsPlace recording sink
@@ -51,7 +51,7 @@ pub record IsSinkAt (sinks : List Sink) (rank : Rank) (place : Place) : Type 0 w
   pub is_rank : sink.rank ≡ rank
   pub is_place : sink.place ≡ place
 
--- a sink that was met: in its place stands a receive of a message that it takes, with the same request
+-- a sink that was met: in its place is a receive of a message that it takes, with the same request
 pub record IsMet (sinks : List Sink) (rank : Rank) (place : Place) (before after : Call) : Type 0 where
   pub there : IsSinkAt sinks rank place
   pub req : Request
@@ -62,7 +62,7 @@ pub record IsMet (sinks : List Sink) (rank : Rank) (place : Place) (before after
   pub same_request : starts after ≡ starts before
   pub is_taken : takes there.sink.wanted comm source tag ≡ true
 
--- in the place of a call stands the same, or what a sink was met by
+-- in the place of a call is the same, or what a sink was met by
 abbrev pub IsFilled : List Sink → Rank → Place → Call → Call → Type 0
 IsFilled sinks rank place before after = (after ≡ before) ⊎ IsMet sinks rank place before after
 

@@ -1,4 +1,4 @@
--- What stays where calls stand in the place of an open. Any calls may: the list that was left open goes on with them.
+-- What stays where calls come in the place of an open. Any calls may: the list that was left open goes on with them.
 use Rattle.mpicall.specs.Names.{Rank}
 use Rattle.moves.specs.declared.reading.Reading.{Reading}
 use Rattle.std.specs.Prelude.{◌≡◌, ℕ, ◌-◌, false, Some, if◌then◌else◌, List, [], ◌++◌, length, take, slice_get, slice_index}
@@ -21,7 +21,7 @@ pub record StandsInPlace (recording later : Lists) : Type 0 where
   pub goes_on : (rank : Rank) → calls_of later rank ≡ calls_before_open recording rank ++ more rank
   pub ended : (rank : Rank) → is_left_open recording rank ≡ false → more rank ≡ []
 
--- the rank stands where it does, whatever calls stand in the place of the opens
+-- the rank stands where it does, whatever calls come in the place of the opens
 abbrev pub StaysPut : Reading → Groups → Lists → Rank → Type 0
 StaysPut reading groups recording rank =
     (later : Lists) → StandsInPlace recording later →

@@ -52,7 +52,7 @@ unmet_at reading groups recording stands rank =
 abbrev pub unmet_of : Reading → Groups → Lists → ℕ → List Need
 unmet_of reading groups recording = unmet_at reading groups recording (stands_of reading groups recording)
 
--- the need stands in the list
+-- the need is in the list
 abbrev pub IsIn : Need → List Need → Type 0
 IsIn need needs = (index : ℕ) × (slice_get needs index ≡ Some need)
 

@@ -1,5 +1,5 @@
 -- The verdict over a run, by this project's reading of MPI: it can hang exactly if some rank is held, whatever calls
--- stand in the place of an open (MPI 4.0, section 11.2.2: each process must call MPI_Finalize). Where no list was left
+-- come in the place of an open (MPI 4.0, section 11.2.2: each process must call MPI_Finalize). Where no list was left
 -- open, a rank is held if it doesn't come to stand at its end.
 use Rattle.mpicall.specs.Names.{Rank}
 use Rattle.moves.specs.declared.reading.Reading.{Reading}

@@ -191,7 +191,7 @@ impl Graph {
         self.stuck.as_slice()
     }
 
-    /// The held ranks, rising: each stays where it stands whatever calls stand in the place of an open. Where no list
+    /// The held ranks, rising: each stays where it stands whatever calls come in the place of an open. Where no list
     /// was left open they are the stuck ranks.
     pub fn held(&self) -> &[u16]
         ensures { result.now ≡ self.now.held }

@@ -8,7 +8,7 @@
 //!   which are the greatest deadlocked set: each member waits for a member, or for a call that a rank lacks
 //!   whose list ended (`Held`), and the causes: the cycles of held ranks that wait for each other, and the calls
 //!   that a held rank waits for and its peer lacks for good (`Causes`).
-//! - Each held rank stands where it does, whatever calls stand in the place of an `open` (`Stays`).
+//! - Each held rank stands where it does, whatever calls come in the place of an `open` (`Stays`).
 //! - `Graph::verdict` answers the verdict: `Hang` exactly if some rank is held, else `Unfinished` if some list
 //!   was left open (`Verdicts`). Where none was, exactly the stuck ranks are held.
 //! - `graph::Graph::of_pending` answers the same where it is known in which calls ranks were when their lists were left

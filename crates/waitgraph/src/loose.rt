@@ -247,7 +247,7 @@ pub fn the_held_are_the_greatest()
     ensures { TheHeldAreTheGreatest }
 {}
 
-/// Each held rank stands where it does, whatever calls stand in the place of the opens. It has no premise: what comes
+/// Each held rank stands where it does, whatever calls come in the place of the opens. It has no premise: what comes
 /// there need not be a lawful list.
 pub fn held_ranks_stay()
     ensures { HeldRanksStay }

@@ -7,7 +7,7 @@ ghost use Rattle.waitgraph.specs.Verdicts.{EachRecordingHasOneVerdict, HangTells
 pub enum Verdict {
     /// Each rank comes to its Finalize, in every maximal run.
     Free,
-    /// Some rank is held: it stays where it stands in every run, whatever calls stand in the place of an open.
+    /// Some rank is held: it stays where it stands in every run, whatever calls come in the place of an open.
     Hang,
     /// No rank is held, and some list was left open.
     Unfinished,

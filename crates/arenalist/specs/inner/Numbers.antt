@@ -1,7 +1,7 @@
 -- What proofs and private contracts cite, in addition to the definitions of `specs/Numbers.antt`.
 use Rattle.std.specs.Prelude.{ℕ, ◌+◌, List, [], ◌∷◌, Option, Some, None, ◌==◌, if◌then◌else◌}
 
--- how often a number stands in a list, and in all lists
+-- how often a number is in a list, and in all lists
 abbrev pub count : ℕ → List ℕ → ℕ
 count n [] = 0
 count n (x ∷ xs) = (if n == x then 1 else 0) + count n xs

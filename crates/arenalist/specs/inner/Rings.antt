@@ -12,7 +12,7 @@ abbrev pub IsRing : List ℕ → List ℕ → List ℕ → Type 0
 IsRing nexts prevs [] = ⊥
 IsRing nexts prevs (h ∷ xs) = Chain nexts prevs h xs h
 
--- what stands on the way from `a` to `z`
+-- what is on the way from `a` to `z`
 abbrev pub walk : List ℕ → ℕ → ℕ → ℕ → List ℕ
 walk nexts zero a z = []
 walk nexts (suc n) a z = if get_or nexts a 0 == z then [] else get_or nexts a 0 ∷ walk nexts n (get_or nexts a 0) z
@@ -25,7 +25,7 @@ rings_of heads nexts = map (λ h. h ∷ walk nexts (length nexts) h h) heads
 abbrev pub lists_of : List (List ℕ) → List (List ℕ)
 lists_of rings = map (λ ring. drop 1 ring) rings
 
--- no cell stands in two rings or twice in one
+-- no cell is in two rings or twice in one
 pub record AreLinked (nexts prevs : List ℕ) (rings : List (List ℕ)) : Type 0 where
   pub cells : length nexts ≡ length prevs
   pub ring : (l : ℕ) → l < length rings → IsRing nexts prevs (list_at rings l)

@@ -14,7 +14,7 @@ entries values (n ∷ ns) = entry_of n (get_or values n None) ++ entries values 
 abbrev pub entries_of : {T : Type 0} → List (Option T) → List (List ℕ) → List (List (ℕ × T))
 entries_of values lists = map (λ list. entries values list) lists
 
--- a cell is a head, stands in a list or is spare; each that stands in a list has a value
+-- a cell is a head, is in a list or is spare; each that is in a list has a value
 pub record IsArena {T : Type 0} (heads : List ℕ) (lists : List (List ℕ)) (cells : ℕ) (values : List (Option T)) (free : List ℕ) (room : ℕ) : Type 0 where
   pub once : (x : ℕ) → count x heads + in_all x lists + count x free ≤ 1
   pub within : (x : ℕ) → 0 < count x heads + in_all x lists + count x free → x < cells

@@ -1,10 +1,10 @@
 -- How a peer is kept in 16 bits and the bytes of a message in 32: the greatest number stands for MPI_PROC_NULL,
--- and for bytes that are not told. A rank of a group and a number of bytes are less.
+-- and for bytes that are not said. A rank of a group and a number of bytes are less.
 use Rattle.std.specs.Prelude.{ℕ, Option, Some, None, ◌<◌, ◌==◌, if◌then◌else◌}
 use Rattle.mpicall.specs.declared.call.Peer.{Peer}
 use Rattle.mpicall.specs.declared.call.Peer.TheVariants.{Rank, Null}
 
--- the number of MPI_PROC_NULL, and that of bytes which are not told
+-- the number of MPI_PROC_NULL, and that of bytes which are not said
 abbrev pub no_rank : ℕ
 no_rank = 65535
 

@@ -8,8 +8,8 @@ abbrev pub linked_ranks : List (List ℕ) → ℕ
 linked_ranks [] = 0
 linked_ranks (ranks ∷ lists) = length ranks + linked_ranks lists
 
--- Only ranks stand in the lists, and each at most once. Who stands in a list besides the first waits there
--- rightly, and who stands in none may rest.
+-- Only ranks are in the lists, and each at most once. Who is in a list besides the first waits there rightly, and who
+-- is in none may rest.
 pub record AreListed (ranks : ℕ) (lists : List (List ℕ)) (IsWaiting : ℕ → ℕ → Type 0) (IsResting : ℕ → Type 0) : Type 0 where
   pub ranks_only : (rank : ℕ) → 0 < in_all rank lists → rank < ranks
   pub once : (rank : ℕ) → in_all rank lists ≤ 1

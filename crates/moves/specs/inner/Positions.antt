@@ -10,7 +10,7 @@ use Rattle.moves.specs.declared.world.Positions.{Positions}
 use Rattle.moves.specs.Runs.{StandsNoLater}
 use Rattle.moves.specs.inner.Waiting.{AreWaves, IsNoException, IsNobody, HoldsBetweenLooks, IsInHand, IsSettled, IsReaching, HasArrived, TellsOperation, TellsRequest, TellsCompleted, TellsCall, TellsRank, touches_of, to_do}
 
--- the call stands there, by its rank and its place
+-- the call is there, by its rank and its place
 abbrev pub IsCallAt : World → ℕ × ℕ → Call → Type 0
 IsCallAt w at call = slice_get (calls_of w.pairs.recording at.0) at.1 ≡ Some call
 
@@ -25,7 +25,7 @@ IsSeenIf w at seen = IfSome seen (IsSeen w.pairs.groups w.pairs.recording at.0 a
 abbrev pub KnowWaves : World → Positions → Type 0
 KnowWaves w p = AreWaves w.pairs.groups w.pairs.recording p.stands.items p.progress IsNoException
 
--- what a look tells: of an operation, of a request that is completed, of all of these, of a call, of a rank
+-- what a look answers: of an operation, of a request that is completed, of all of these, of a call, of a rank
 abbrev pub OperationTells : World → Positions → ℕ × ℕ → Look → Type 0
 OperationTells w p at = TellsOperation w.reading w.pairs.groups w.pairs.recording p.stands.items p.progress at.0 at.1
 

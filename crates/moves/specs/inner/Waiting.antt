@@ -107,7 +107,7 @@ abbrev pub cost_of : Option Call → ℕ
 cost_of None = 3
 cost_of (Some call) = 16
 
--- what is told of the operation of the call at a place: that its needs are met, or what it waits for
+-- what a look answers of the operation of the call at a place: that its needs are met, or what it waits for
 abbrev pub TellsOperation : Reading → Groups → Lists → State → Progress → ℕ → ℕ → Look → Type 0
 TellsOperation reading groups recording stands progress rank place Over = ⊥
 TellsOperation reading groups recording stands progress rank place Moves = list_all (is_met stands) (operation_needs_at reading groups recording rank place) ≡ true
@@ -154,7 +154,7 @@ pub record NeedsWave (groups : Groups) (recording : Lists) (stands : State) (pro
   pub is_awaited : IsAwaited recording rank (slice_index stands rank) start
   pub is_joined : open_wave groups recording progress rank start ≡ Some comm
 
--- what is told of a rank where it stands: that it can move on, what it waits for, or that it rests, as it
+-- what a look answers of a rank where it stands: that it can move on, what it waits for, or that it rests, as it
 -- has no call there or the one that ends its list
 abbrev pub Rests : Lists → State → ℕ → Type 0
 Rests recording stands rank = may_pass (slice_get (calls_of recording rank) (slice_index stands rank)) ≡ false
@@ -258,7 +258,7 @@ WaitsIn reading groups recording stands progress awaited rank list =
     ((list ≡ own_list rank) × (rank < length recording) × NeedsPartner reading groups recording stands rank (slice_index awaited rank))
     ⊎ ((comm : ℕ) × (list ≡ comm_list (length recording) comm) × NeedsWave groups recording stands progress rank comm)
 
--- there is a list for each rank and for each communicator, and room for each rank; what stands in a list was
+-- there is a list for each rank and for each communicator, and room for each rank; what is in a list was
 -- counted when it was put there
 pub record HasLists (groups : Groups) (recording : Lists) (waiting : WaitLists) : Type 0 where
   pub lists : length waiting.lists ≡ 1 + length recording + length groups

@@ -32,7 +32,7 @@ has_args _ = true
 abbrev pub call_from : Name → CallArgs → Call
 call_from name it = unwrap_or (call_by name it) (Recv 0 Null 0)
 
--- the same, said for each name, as it was before `call_by` answered an option
+-- the same, said for each name and without an option
 abbrev pub call_without_option : Name → CallArgs → Call
 call_without_option name.Sendrecv (Exchange comm dest send_tag source recv_tag bytes) = call.Sendrecv comm dest send_tag source recv_tag bytes
 call_without_option name.Dup (Copy comm new) = call.Dup comm new

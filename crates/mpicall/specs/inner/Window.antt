@@ -16,7 +16,7 @@ buffered_between start end buffer = take (end - start) (drop start buffer)
 abbrev pub NoFeedBelow : List ℕ → ℕ → Type 0
 NoFeedBelow bytes n = (k : ℕ) → k < n → slice_index bytes k ≢ line_feed
 
--- the first line feed stands at this place
+-- the first line feed is at this place
 pub record FirstFeed (bytes : List ℕ) (place : ℕ) : Type 0 where
   pub within : place < length bytes
   pub feed : slice_index bytes place ≡ line_feed

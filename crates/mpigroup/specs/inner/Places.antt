@@ -4,17 +4,17 @@ use Rattle.mpicall.specs.Number.{is_canonical, value_of}
 use Rattle.mpigroup.specs.declared.limits.TheConstants.{MOST_RANKS}
 use Rattle.mpigroup.specs.declared.group.TheConstants.{NO_PLACE}
 
--- the place that an entry tells, if there is one and it tells one
+-- the place that an entry has, if there is such an entry and it has one
 abbrev pub told_place : Option ℕ → Option ℕ
 told_place None = None
 told_place (Some entry) = if entry == NO_PLACE then None else Some entry
 
--- the table tells each rank's place among the members, of whom there are no more than ranks may be
+-- the table has each rank's place among the members, of whom there are no more than ranks may be
 pub record IsPlaced (members places : List ℕ) : Type 0 where
   pub few : length members ≤ MOST_RANKS
   pub told : (rank : ℕ) → told_place (slice_get places rank) ≡ position (λ member. member == rank) members
 
--- the table has an entry for the rank, and that tells no place
+-- the table has an entry for the rank, and that has no place
 abbrev pub is_free : Option ℕ → Bool
 is_free None = false
 is_free (Some entry) = entry == NO_PLACE

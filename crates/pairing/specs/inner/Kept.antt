@@ -1,4 +1,4 @@
--- How `Pairs` keeps what it tells: with each call stand the number of its wave, which the definitions count over
+-- How `Pairs` keeps what it answers: with each call it keeps the number of its wave, which the definitions count over
 -- the calls of its rank before it, and the places of its partners.
 use Rattle.std.specs.Prelude.{◌≡◌, ℕ, Some, option_map, List, map, length, take, slice_get}
 use Rattle.mpicall.specs.declared.call.Call.{Call}
@@ -12,7 +12,7 @@ use Rattle.callstore.specs.Places.{places}
 use Rattle.callstore.specs.Requests.{waits_for, started_in}
 use Rattle.callstore.specs.Waves.{joins, does_join}
 
--- What stands with a call of the rank, made after those before: how many collectives of the same communicator
+-- What is kept with a call of the rank, made after those before: how many collectives of the same communicator
 -- the rank had called; and the places that started the requests which the call waits for.
 pub record IsNoted (before : List Call) (noted : Noted) : Type 0 where
   pub wave : (comm : ℕ) → joins noted.call ≡ Some comm → wave_in noted.cached ≡ length (places (does_join comm) before)

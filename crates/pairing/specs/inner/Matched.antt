@@ -117,7 +117,7 @@ worked_if is_there work = if is_there then counted work 1 else work
 abbrev pub worked : Halves → ℕ → ℕ
 worked halves work = worked_if (is_some halves.recv) (worked_if (is_some halves.send) work)
 
--- The halves that are filed so far have their partners kept with them, or are pending. A half stands under the
+-- The halves that are filed so far have their partners kept with them, or are pending. A half is under the
 -- envelope of its call, once, in the order of its rank's list.
 pub record ArePaired (groups : Groups) (notes : List (List Noted)) (filing : Filing) (matching : Matching) : Type 0 where
   pub noted : AreNoted notes
@@ -131,7 +131,7 @@ pub record ArePaired (groups : Groups) (notes : List (List Noted)) (filing : Fil
   pub once : (half : Half) (e : Envelope) (number other place : ℕ) → slice_get (filing half e) number ≡ Some place → slice_get (filing half e) other ≡ Some place → number ≡ other
   pub ranked : (half : Half) (e : Envelope) → rank_of_half groups half e ≡ None → filing half e ≡ []
 
--- a half of the rank's call at the place comes next: all that are filed of the rank stand before it
+-- a half of the rank's call at the place comes next: all that are filed of the rank are before it
 pub record IsNext (groups : Groups) (recording : Lists) (filing : Filing) (rank place : ℕ) (half : Half) (e : Envelope) : Type 0 where
   pub here : envelope_at groups recording rank place half ≡ Some e
   pub last : (f : Envelope) (number before : ℕ) → rank_of_half groups half f ≡ Some rank → slice_get (filing half f) number ≡ Some before → before < place

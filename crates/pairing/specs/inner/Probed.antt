@@ -14,7 +14,7 @@ abbrev pub HasProbesIf : Bool → Groups → Lists → Type 0
 HasProbesIf true groups recording = HasProbe groups recording
 HasProbesIf false groups recording = NoneIsProbed groups recording
 
--- the same send, by where the next receive after the probe stands
+-- the same send, by where the next receive after the probe is
 abbrev pub seen_from : Groups → Lists → ℕ → Option ℕ → Envelope → Option (ℕ × ℕ)
 seen_from groups recording rank (Some there) e = partner_of groups recording rank there RecvHalf
 seen_from groups recording rank None e =

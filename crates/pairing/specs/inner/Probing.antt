@@ -21,14 +21,14 @@ unfilled_at probes e = get is_same_envelope probes.unfilled e
 abbrev pub seat_for : Probes → Envelope → ℕ
 seat_for probes e = unwrap_or (unfilled_at probes e) (length probes.seats.items)
 
--- which seat stands with the rank's call at a place
+-- which seat is kept with the rank's call at a place
 abbrev pub Seating : Type 0
 Seating = ℕ → ℕ → Option ℕ
 
 abbrev pub seated : Seating → ℕ → ℕ → Option ℕ → Seating
 seated seating rank place seat r p = if r == rank && p == place then seat else seating r p
 
--- With the probe stands a seat, which has the place of the next receive after it; while there is none, it is
+-- With the probe is kept a seat, which has the place of the next receive after it; while there is none, it is
 -- the unfilled seat of its envelope.
 pub record IsSeatOf (groups : Groups) (recording : Lists) (seating : Seating) (probes : Probes) (rank place : ℕ) (e : Envelope) : Type 0 where
   pub seat : ℕ

@@ -19,7 +19,7 @@ is_same_request = (request_eq.ghosts).eq
 abbrev pub cell_no : ℕ → ℕ → ℕ
 cell_no rank req = rank * REQUEST_CELLS + req % REQUEST_CELLS
 
--- what stands in that cell
+-- what is in that cell
 abbrev pub cell_in : Active → ℕ → ℕ → Option ActiveRequest
 cell_in active rank req = slice_index_or active.cells.items (cell_no rank req) None
 

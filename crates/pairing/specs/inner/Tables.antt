@@ -37,7 +37,7 @@ pub record HaveRoom (groups : Groups) (rank : ℕ) (call : Call) (room : Room) (
   pub made_comms : HasRoomToHold tables.made_comms call
   pub active : HasRoomToStart tables.active call
 
--- with the rank's call stands the number of its wave, and no partner yet
+-- with the rank's call is kept the number of its wave, and no partner yet
 pub record IsCached (before : List Call) (call : Call) (cached : CachedMatch) : Type 0 where
   pub wave : (comm : ℕ) → joins call ≡ Some comm → wave_in cached ≡ length (places (does_join comm) before)
   pub alone : (half : Half) → partner_in half cached ≡ None

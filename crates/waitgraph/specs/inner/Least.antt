@@ -6,7 +6,7 @@ use Rattle.waitgraph.specs.Held.{Set}
 abbrev pub SetRule : Type 0
 SetRule = Set → Set
 
--- the ranks that so many rounds of the rule make, beginning with none
+-- the ranks that so many rounds of the rule make, starting with none
 abbrev pub after_rounds : SetRule → ℕ → Set
 after_rounds rule zero rank = false
 after_rounds rule (suc rounds) rank = rule (after_rounds rule rounds) rank

@@ -5,7 +5,7 @@ use Rattle.std.specs.List.{filter, list_any}
 use Rattle.waitgraph.specs.declared.pending.Sink.{Sink}
 use Rattle.waitgraph.specs.inner.Buckets.{bucket}
 
--- those of each rank stand in its own list
+-- those of each rank are in its own list
 abbrev pub AreByRank : {Z : Type 0} → List Sink → List (Vec Sink Z) → Type 0
 AreByRank all by_rank = (rank : ℕ) → rank < length by_rank → bucket by_rank rank ≡ filter (λ sink. sink.rank == rank) all
 
