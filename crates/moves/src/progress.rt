@@ -158,7 +158,8 @@ impl Progress {
         self.reach_wave(pairs, stands, at, wave)
     }
 
-    /// Notes it for a call that joins this wave.
+    /// Notes that the rank has reached its call at the place, which joins this wave; answers the communicator whose next
+    /// wave is complete by it, if one is.
     #[inline(always)]
     fn reach_wave(
         &mut self,

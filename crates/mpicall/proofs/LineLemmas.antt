@@ -1,4 +1,4 @@
--- A line is read as a call exactly where it is that call's spelling, and else its first fault is told.
+-- A line is read as a call exactly where it is that call's spelling, and else its first fault is answered.
 use Rattle.std.proofs.Common.{◌≡◌, ◌↔◌, ℕ, ◌+◌, ◌-◌, ◌*◌, ◌<◌, ◌≤◌, Bool, true, false, List, [], ◌∷◌, ◌++◌, length, get_or, drop, take, sym, ap, ◌∙◌, refl, arith, Option, Some, None, Result, Ok, Err, cond, nat_lt, length-append, ◌==◌, zero, suc, map}
 use Rattle.std.specs.List.{All, join_with_byte, list_any, list_all}
 use Rattle.std.proofs.lemmas.Bool.Decides.{nat_tests}

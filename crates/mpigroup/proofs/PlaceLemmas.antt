@@ -9,7 +9,7 @@ use Rattle.mpigroup.proofs.ListLemmas.{slice_get-set_same, slice_get-set_other}
 use Rattle.mpigroup.specs.inner.Places.{told_place, is_free, new_member}
 use Rattle.mpigroup.specs.declared.group.TheConstants.{NO_PLACE}
 
--- the table tells the places of these members
+-- the table has the places of these members
 pub record AreTold (members places : List ℕ) : Type 0 where
   pub told : (rank : ℕ) → told_place (slice_get places rank) ≡ position (λ member. eqb member rank) members
 

@@ -86,7 +86,7 @@ lawful_push groups rank calls call lawful none place other h =
 any_one : (test : Call → Bool) (x : Call) → list_any test (x ∷ []) ≡ test x
 any_one test x = ⊎_elim (λ (e : test x ≡ true). rw e refl) (λ (e : test x ≡ false). rw e refl) (cases_Bool (test x))
 
--- where no element but the last passes, the last tells whether one passes
+-- where no element but the last passes, the last decides whether one passes
 last_tells : (test : Call → Bool) (calls : List Call) → ((place : ℕ) (call : Call) → slice_get calls place ≡ Some call → list_any test (take place calls) ≡ false) → list_any test calls ≡ option_map_or test (slice_get calls (length calls - 1)) false
 last_tells test [] alone = refl
 last_tells test (x ∷ []) alone = any_one test x
@@ -96,7 +96,7 @@ last_tells test (x ∷ y ∷ ys) alone =
     let end : suc (suc (length ys)) - 1 ≡ suc (suc (length ys) - 1) = omega arith in
     rw (fails, end) rest
 
--- in a lawful list nothing follows Finalize, so the last call tells whether it has one
+-- in a lawful list nothing follows Finalize, so the last call decides whether it has one
 pub lawful_end : (groups : Groups) (rank : ℕ) (calls : List Call) → IsLawfulList groups rank calls → is_ended calls ≡ has_end calls
 lawful_end groups rank calls lawful =
     sym (last_tells ends_list calls (λ place call h. (fault_none groups rank (take place calls) call (lawful place call h)).is_open))

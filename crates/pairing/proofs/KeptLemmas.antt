@@ -1,4 +1,4 @@
--- What is told from the notes is what the definitions say.
+-- What the notes say is what the definitions say.
 use Rattle.std.proofs.Common.{◌≡◌, ◌≢◌, ℕ, zero, suc, ◌+◌, ◌<◌, ◌≤◌, true, false, cond, eqb, ltb, Option, Some, None, List, [], ◌∷◌, ◌++◌, replicate, length, length-set, take, drop, map, refl, sym, ap, subst, ◌∙◌, ⊎_elim, arith}
 use Rattle.std.specs.Prelude.{option_map, option_and_then}
 use Rattle.std.specs.List.{slice_get, list_any, position, position_or_len}
@@ -226,7 +226,7 @@ paired_as groups old noted before rank call is_rank kept goes =
     (paired_from groups old rank goes.noted before.matches is_rank (omega (arith, is_rank, ranks_noted old))
     (recording_of-more old rank goes.noted) goes.alone (are_noted-more old rank goes.noted is_rank kept.noted goes.is_noted) kept.partnered kept.tables.matched)
 
--- whether a list is over is told by its last call, where it is lawful
+-- whether a list is over is decided by its last call, where it is lawful
 pub is_over_by : (groups : Groups) (notes : List (List Noted)) (tables : Tables) (rank : ℕ) → rank < length notes → IsKept groups notes tables → is_ended (calls_of (recording_of notes) rank) ≡ has_end (calls_of (recording_of notes) rank)
 is_over_by groups notes tables rank is_rank kept =
     lawful_end groups rank (calls_of (recording_of notes) rank) (kept.lawful rank (omega (arith, is_rank, ranks_noted notes)))

@@ -13,7 +13,7 @@ use Rattle.waitgraph.specs.Held.{Set}
 use Rattle.waitgraph.proofs.AmongLemmas.{Among, among_in, in_among, among_both, among_given, among_range}
 use Rattle.waitgraph.proofs.WalkLaws.{IsWaiting, WalkGoesOn, walk_ends, told_by_way, is_an_end, end_is_waiting, next_is_waiting}
 
--- what it means that the cycle of a rank is told
+-- what it means that the cycle of a rank is listed
 record IsCycleOf (walks : Walks) (rank : ℕ) (cause : CauseView) : Type 0 where
   ranks : List ℕ
   is_way : way_round walks (length walks) rank rank ≡ Some ranks
@@ -32,7 +32,7 @@ cycle_parts walks rank cause h =
     by_way walks rank cause None way h = absurd (none-some cause h)
     by_way walks rank cause (Some ranks) way h = by_test walks rank cause ranks (list_all (nat_le rank) ranks) way refl h
 
--- what it means that a missing call of a rank is told
+-- what it means that a missing call of a rank is listed
 record IsMissingOf (walks : Walks) (rank : ℕ) (cause : CauseView) : Type 0 where
   peer : ℕ
   lacks : lacks_in walks rank ≡ Some peer
@@ -55,7 +55,7 @@ missing_ends walks rank cause is = by_hop (hop_in walks rank) refl is
     by_hop (Some (Lacks peer)) at is = rw at is
     by_hop (Some Nobody) at is = absurd (none-some cause is)
 
--- what it means that a rank is told which waits for a message that nobody may send
+-- what it means that a rank is listed which waits for a message that nobody may send
 starved_parts : (walks : Walks) (rank : ℕ) (cause : CauseView) → starved_at walks rank ≡ Some cause → (end_at walks rank ≡ Some cause) × (cause ≡ StarvedOf rank)
 starved_parts walks rank cause is = by_hop (hop_in walks rank) refl is
   where
@@ -222,7 +222,7 @@ none_twice walks index other cause p q =
     (among_both cause (filter_map (cycle_at walks) (range_with_len 0 (length walks))) (filter_map (missing_at walks) (range_with_len 0 (length walks))) front))
     index other p q
 
--- what is told of walks that go on from held ranks alone, and from each
+-- what is said of walks that go on from held ranks alone, and from each
 pub walks_tell : (walks : Walks) (held : Set) → ((rank : ℕ) → held rank ≡ true → IsWaiting walks rank) → ((rank : ℕ) → IsWaiting walks rank → held rank ≡ true) → WalkGoesOn walks → TellsCauses (next_in walks) (end_at walks) held (causes_in walks)
 walks_tell walks held waits are on = record {
   each_walk_ends = λ rank h.

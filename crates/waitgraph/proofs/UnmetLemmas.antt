@@ -49,7 +49,7 @@ unmet_from reading groups recording stands rank need h =
     (parts.0, not-true (is_met stands need) parts.1))
     (with_needs_from need [] (filter (is_unmet stands) needs) h)
 
--- and what is needed and not met is told
+-- and what is needed and not met is listed
 pub unmet_all : (reading : Reading) (groups : Groups) (recording : Lists) (stands : State) (rank : ℕ) (need : Need) → Among need (needs_of reading groups recording rank (slice_index stands rank)) → is_met stands need ≡ false → Among need (unmet_at reading groups recording stands rank)
 unfolding unmet_at
 unmet_all reading groups recording stands rank need h unmet =

@@ -157,7 +157,7 @@ comes_round walks rank on =
     cycle_from walks rank pair.first pair.second on pair.before pair.within pair.same lowest.place (omega (arith, lowest.within))
     (λ other less. lowest.is_lowest other (omega arith))
 
--- a rank's cycle, told by its way home
+-- a rank's cycle, by its way home
 pub record TellsCycle (walks : Walks) (rank : ℕ) (ranks : List ℕ) : Type 0 where
   pub rest : List ℕ
   pub begins : ranks ≡ rank ∷ rest

@@ -54,7 +54,7 @@ pub enum PendingCall {
 }
 
 impl PendingCall {
-    /// Its items.
+    /// The items that the call waits for; none where nothing is known of it.
     pub fn items(&self) -> &[Item]
         ensures { result.now ≡ (view_of self.now).items }
     {

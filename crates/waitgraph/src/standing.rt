@@ -48,7 +48,7 @@ fn standing_at(pairs: &Pairs, stands: &[u32], rank: u16) -> Standing
     }
 }
 
-/// And each rank.
+/// Where each rank stands.
 pub(crate) fn standings_at(
     alloc: Global,
     pairs: &Pairs,

@@ -10,7 +10,7 @@ use Rattle.moves.proofs.WakeLemmas.{all_woken, one_by_one, wave_if}
 use Rattle.moves.proofs.SettleLemmas.{partners_room, reach_hand, reach_counts}
 use Rattle.moves.proofs.settle.reach_call.Goals as goal
 
--- a communicator that may be told is one of the groups
+-- a communicator that may be answered is one of the groups
 known : (comms : ℕ) (done : Option ℕ) → IfSome done (λ comm. comm < comms) → (comm : ℕ) → done ≡ Some comm → comm < comms
 known comms None h comm e = absurd (none-some comm e)
 known comms (Some c) h comm e = subst (λ (k : ℕ). k < comms) (same_Some c comm e) h

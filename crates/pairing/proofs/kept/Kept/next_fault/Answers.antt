@@ -1,4 +1,4 @@
--- The first fault is told by the tables of the calls before it.
+-- The first fault follows from the tables of the calls before it.
 use Rattle.std.proofs.Common.{◌∙◌, sym}
 use Rattle.callstore.specs.inner.Notes.{recording_of}
 use Rattle.pairing.proofs.KeptLemmas.{is_over_by, count_noted}
