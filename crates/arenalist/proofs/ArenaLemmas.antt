@@ -76,7 +76,7 @@ module _ {T : Type 0} where
         room_enough = omega (arith, k.room_enough);
       }
 
-  -- a cell that stands in a list goes back to the spare ones
+  -- a cell that is in a list goes back to the spare ones
   pub record Given (cells : ℕ) (free : List ℕ) (values : List (Option T)) (n : ℕ) : Type 0 where
     pub cell_in : n < cells
     pub fewer : length free < cells

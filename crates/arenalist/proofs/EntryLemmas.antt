@@ -115,7 +115,7 @@ module _ {T : Type 0} where
   none_some None e h = cc
   none_some (Some v) e h = cc
 
-  -- what has a value stands in a list
+  -- what has a value is in a list
   pub standing : (values : List (Option T)) (n : ℕ) (lists : List (List ℕ)) → is_some (value_at (entries_of values lists) n) ≡ true → 0 < in_all n lists
   standing values n lists h =
       ⊎_elim
@@ -185,7 +185,7 @@ module _ {T : Type 0} where
       behind_other n x (get_or values x None) (entries values xs) other ∙ entries_behind values n xs (λ y some. h y (omega (arith, some))) ∙ ap (entries values) (sym it))
       (cases_eq n x)
 
-  -- how often a node stands in entries
+  -- how often a node is in entries
   times_entry : (n x : ℕ) (o : Option T) (es : List (ℕ × T)) → times_in (entry_of x o ++ es) n ≤ count n (x ∷ []) + times_in es n
   times_entry n x None es = omega arith
   times_entry n x (Some v) es = omega arith

@@ -22,7 +22,7 @@ ring_at heads nexts l h =
     let is : list_at (rings_of heads nexts) l ≡ get_or heads l 0 ∷ walk nexts (length nexts) (get_or heads l 0) (get_or heads l 0) = get_or-map (λ (x : ℕ). x ∷ walk nexts (length nexts) x x) heads l 0 [] h in
     is ∙ ap (λ (xs : List ℕ). get_or heads l 0 ∷ xs) (sym (lists_at (rings_of heads nexts) l (omega (arith, long_rings heads nexts)) ∙ ap (λ (ring : List ℕ). drop 1 ring) is))
 
--- a cell stands in the rings as a head or in a list
+-- a cell is in the rings as a head or in a list
 in_headed : (f : ℕ → List ℕ) (heads : List ℕ) (x : ℕ) → in_all x (map (λ (h : ℕ). h ∷ f h) heads) ≡ count x heads + in_all x (lists_of (map (λ (h : ℕ). h ∷ f h) heads))
 in_headed f [] x = refl
 in_headed f (h ∷ heads) x = omega (arith, in_headed f heads x)

@@ -1,4 +1,4 @@
--- How often numbers stand in lists.
+-- How often numbers are in lists.
 use Rattle.std.proofs.Common.{◌≡◌, ℕ, zero, suc, ◌+◌, ◌<◌, ◌≤◌, ◌++◌, ◌≢◌, List, [], ◌∷◌, length, map, drop, get_or, set, refl, sym, ap, ◌∙◌, ⊎_elim, arith, get_or-set_same, get_or-set_other}
 use Rattle.std.specs.Prelude.{◌==◌, if◌then◌else◌}
 use Rattle.std.proofs.lemmas.List.{get_or-map}
@@ -41,7 +41,7 @@ count_in_two r (y ∷ ys) zero (suc m) h = omega (arith, count_in_all r ys m)
 count_in_two r (y ∷ ys) (suc l) zero h = omega (arith, count_in_all r ys l)
 count_in_two r (y ∷ ys) (suc l) (suc m) h = omega (arith, count_in_two r ys l m (λ e. h (ap suc e)))
 
--- the list in which a number stands
+-- the list in which a number is
 pub found_in : (n : ℕ) (ls : List (List ℕ)) → 0 < in_all n ls → (l : ℕ) × (l < length ls) × (0 < count n (list_at ls l))
 found_in n [] h = absurd (omega arith)
 found_in n (y ∷ ys) h =
@@ -52,7 +52,7 @@ found_in n (y ∷ ys) h =
     (suc later.0, omega (arith, later.1), later.2))
     (cases_lt 0 (count n y))
 
--- a list is cut at a number that stands in it
+-- a list is cut at a number that is in it
 pub record Cut (n : ℕ) (xs : List ℕ) : Type 0 where
   pub front : List ℕ
   pub back : List ℕ

@@ -14,7 +14,7 @@ use Rattle.arenalist.proofs.RingLemmas.{chain_bent, chain_join, last_in, ring_sa
 use Rattle.arenalist.proofs.EntryLemmas.{entries_at}
 use Rattle.arenalist.proofs.LinkLemmas.{long_rings, long_lists, ring_at, in_rings, its}
 
--- what stands where three places are written
+-- what is where three places are written
 three_other : (xs : List ℕ) (i u j v k w b : ℕ) → b ≢ i → b ≢ j → b ≢ k → get_or (set (set (set xs i u) j v) k w) b 0 ≡ get_or xs b 0
 three_other xs i u j v k w b not_i not_j not_k = get_or-set_other (set (set xs i u) j v) k b w 0 not_k ∙ get_or-set_other (set xs i u) j b v 0 not_j ∙ get_or-set_other xs i b u 0 not_i
 

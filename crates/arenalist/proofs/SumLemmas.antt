@@ -37,6 +37,6 @@ sum_count n [] h = sum_zero n (λ k. 0) (λ k l. refl)
 sum_count n (x ∷ xs) h =
     omega (arith, sum_both n (λ k. count k (x ∷ [])) (λ k. count k xs) (λ k. count k (x ∷ xs)) (λ k. omega arith), sum_one n x (h x (omega (arith, count_one x))), sum_count n xs (λ r l. h r (omega (arith, l))))
 
--- so a list is no longer than there are numbers, where each stands in it once at most
+-- so a list is no longer than there are numbers, where each is in it once at most
 pub length_most : (n : ℕ) (xs : List ℕ) → ((r : ℕ) → 0 < count r xs → r < n) → ((r : ℕ) → count r xs ≤ 1) → length xs ≤ n
 length_most n xs within once = omega (arith, sum_count n xs within, sum_most n (λ k. count k xs) once)

@@ -155,7 +155,7 @@ request_noted all starts [] place = refl
 request_noted all starts (entry ∷ entries) zero = request_unpacked all starts entry.call
 request_noted all starts (entry ∷ entries) (suc place) = request_noted all starts entries place
 
--- what stands at the starts of a wait: calls that start requests, and those that it names
+-- what is at the starts of a wait: calls that start requests, and those that it names
 pub record Names (entries : List Entry) (places reqs : List ℕ) : Type 0 where
   pub start : StartRequests entries places
   pub are_those : reqs_at entries places ≡ reqs
@@ -223,7 +223,7 @@ same_maps {Y = Y} f g (x ∷ xs) agree =
     let rest : map f xs ≡ map g xs = same_maps f g xs agree in
     cc
 
--- what stands with an entry's call is another: all calls stay
+-- what is kept with an entry's call is another: all calls stay
 request_cached : (entries : List Entry) (i : ℕ) (old : Entry) (cached : CachedMatch) → slice_get entries i ≡ Some old → (place : ℕ) → request_at (set entries i (record { call = old.call; cached = cached })) place ≡ request_at entries place
 request_cached [] i old cached h place = refl
 request_cached (entry ∷ entries) zero old cached h zero = ap (λ (e : Entry). request_of e.call) (sym (same_Some entry old h))

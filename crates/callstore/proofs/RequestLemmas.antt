@@ -34,7 +34,7 @@ starts_it calls call req here =
     ∙ ap (λ (place : ℕ). unless_completed (calls ++ call ∷ []) req place) (omega arith)
     ∙ unless_last calls call req
 
--- a place that is among those of a test stands within the list
+-- a place that is among those of a test is within the list
 pub place_within : (test : Call → Bool) (calls : List Call) (k place : ℕ) → slice_get (places test calls) k ≡ Some place → place < length calls
 place_within test calls k place h =
     let nth = nth_place 0 test calls k place h in
@@ -89,7 +89,7 @@ unless_parts calls req place start h =
     (λ (e : list_any (does_complete req) (drop (place + 1) calls) ≡ false). same_Some place start (rw e at h))
     (cases_Bool (list_any (does_complete req) (drop (place + 1) calls)))
 
--- what stands where an active request was started
+-- what is where an active request was started
 pub record Started (calls : List Call) (req start : ℕ) : Type 0 where
   pub starter : Call
   pub stands_there : slice_get calls start ≡ Some starter

@@ -31,7 +31,7 @@ waits_unpacked entries starts _ = refl
 none_completed : {call : Call} (entries : List Entry) → IsApart call → completes call ≡ reqs_at entries (completed_among call [])
 none_completed entries apart = apart.completes ∙ sym (ap (λ (places : List ℕ). reqs_at entries places) apart.among)
 
--- and completes what those of its starts start which stand with what it completes
+-- and completes what those of its starts start which are kept with what it completes
 by_starts : (entries : List Entry) (starts : List ℕ) (packed : Packed) → completes (unpack entries starts packed) ≡ reqs_at entries (completed_among (unpack entries starts packed) (unpack_starts starts packed))
 by_starts entries starts (Waitany chosen first count) =
     ap (take 1) (drop-map (req_at entries) chosen (part starts first count)) ∙ take-map (req_at entries) 1 (drop chosen (part starts first count))
@@ -58,7 +58,7 @@ position_map : (f : ℕ → ℕ) (test : ℕ → Bool) (xs : List ℕ) → posit
 position_map f test xs =
     rw (prefix_map f (λ y. not (test y)) xs, length-map xs f) refl
 
--- what stands at the first position is the first
+-- what is at the first position is the first
 at_position : (test : ℕ → Bool) (xs : List ℕ) → option_and_then (slice_get xs) (position test xs) ≡ find test xs
 at_position test xs =
     ⊎_elim

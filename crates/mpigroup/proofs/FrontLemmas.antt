@@ -18,7 +18,7 @@ use Rattle.mpigroup.proofs.LineLemmas.{lines_at_feed, lines_without_feed}
 abbrev is_feed : ℕ → Bool
 is_feed byte = eqb byte 10
 
--- where the first line feed stands
+-- where the first line feed is
 abbrev feed_at : List ℕ → ℕ
 feed_at xs = position_or_len is_feed xs
 

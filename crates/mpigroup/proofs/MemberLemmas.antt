@@ -17,7 +17,7 @@ pub record AreMembers (ranks : ℕ) (all : List (List ℕ)) (group : List ℕ) (
   pub once : has_twice group ≡ false
   pub canonical : list_all is_canonical numbers ≡ list_all is_canonical all
 
--- a number that stands in a front and again after it stands twice
+-- a number that is in a front and again after it is there twice
 has_twice-found : (xs : List ℕ) (x : ℕ) (ys : List ℕ) → list_any (λ y. eqb y x) xs ≡ true → has_twice (xs ++ x ∷ ys) ≡ true
 has_twice-found [] x ys found = cc
 has_twice-found (y ∷ xs) x ys found = elim (or_cases (eqb y x) (list_any (λ z. eqb z x) xs) found) [
@@ -27,7 +27,7 @@ has_twice-found (y ∷ xs) x ys found = elim (or_cases (eqb y x) (list_any (λ z
   | inr behind ↦ or_right (list_any (λ z. eqb z y) (xs ++ x ∷ ys)) _ (has_twice-found xs x ys behind)
 ]
 
--- one more number, which doesn't stand there yet
+-- one more number, which isn't there yet
 has_twice-push : (xs : List ℕ) (x : ℕ) → has_twice xs ≡ false → list_any (λ y. eqb y x) xs ≡ false → has_twice (xs ++ x ∷ []) ≡ false
 has_twice-push [] x once new = refl
 has_twice-push (y ∷ xs) x once new =
@@ -55,7 +55,7 @@ above ranks all group number numbers so_far h =
     let bad : is_group ranks (map value_of all) ≡ false = and_left _ _ (and_right _ _ below) in
     rw bad refl
 
--- a rank that stands there already
+-- a rank that is there already
 twice : (ranks : ℕ) (all : List (List ℕ)) (group number : List ℕ) (numbers : List (List ℕ)) → AreMembers ranks all group (number ∷ numbers) → list_any (λ y. eqb y (value_of number)) group ≡ true → checked_group ranks (map value_of all) ≡ Err Group
 twice ranks all group number numbers so_far found =
     let some : has_twice (group ++ value_of number ∷ map value_of numbers) ≡ true = has_twice-found group (value_of number) (map value_of numbers) found in

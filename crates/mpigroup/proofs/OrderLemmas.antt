@@ -13,7 +13,7 @@ use Rattle.std.proofs.lemmas.List.Sorted.{list_any-IsPermutation}
 use Rattle.std.proofs.lemmas.List.Kept.{IsStrictlySortedBy-dedup}
 use Rattle.mpigroup.specs.Splits.{put_in, in_order}
 
--- the element stands in the list, by the order
+-- the element is in the list, by the order
 abbrev pub has : {T : Type 0} → (T → T → Ordering) → T → List T → Bool
 has cmp q xs = list_any (eq_by_cmp cmp q) xs
 
@@ -86,7 +86,7 @@ found_below cmp exact y q (z ∷ ys) all some = found_below_at cmp exact y q z y
 no_both : {T : Type 0} (cmp : T → T → Ordering) (o : IsTotalOrder cmp) (x y : T) → cmp x y ≡ Less → cmp y x ≡ Less → ⊥
 no_both cmp o x y e d = let f : Less ≡ Greater = sym e ∙ o.antisymm x y ∙ ap ordering_reverse d in cc
 
--- after an equal first element stand the same elements
+-- after an equal first element are the same elements
 same_behind : {T : Type 0} (cmp : T → T → Ordering) (exact : (x y : T) → cmp x y ≡ Equal → x ≡ y) (x q : T) (xs ys : List T) (r : Ordering) → cmp q x ≡ r → AllByRecursion (λ z. cmp x z ≡ Less) xs → AllByRecursion (λ z. cmp x z ≡ Less) ys → has cmp q (x ∷ xs) ≡ has cmp q (x ∷ ys) → has cmp q xs ≡ has cmp q ys
 same_behind cmp exact x q xs ys Less e s t same = rw e at same
 same_behind cmp exact x q xs ys Greater e s t same = rw e at same

@@ -1,4 +1,4 @@
--- Members in order of their colours: those of one colour stand together.
+-- Members in order of their colours: those of one colour are together.
 use Rattle.std.proofs.Common.{◌≡◌, ℕ, ◌+◌, ◌≤◌, suc, Bool, true, false, not, eqb, ltb, List, [], ◌∷◌, ◌++◌, length, map, take, drop, sym, ap, ◌∙◌, refl, arith, inl, inr, append_assoc, Some, unwrap_or, subst}
 use Rattle.std.specs.List.{position_or_len, position, slice_get, filter, dedup_from, AllByRecursion}
 use Rattle.std.specs.List.Sorted.{IsStrictlySortedBy}
@@ -43,7 +43,7 @@ filter-above c (x ∷ xs) all =
     let other : eqb x.colour c ≡ false = ne_eqb x.colour c (λ e. omega (arith, all.0)) in
     rw other (filter-above c xs all.1)
 
--- the members of the least colour stand in front
+-- the members of the least colour are in front
 filter-run : (c : ℕ) (xs : List Member) → AtLeast c xs → ColoursRise xs → filter (has_colour c) xs ≡ take (run c xs) xs
 filter-run c [] all rise = refl
 filter-run c (x ∷ xs) all rise = elim (cases_Bool (eqb x.colour c)) [

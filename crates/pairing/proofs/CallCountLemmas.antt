@@ -35,7 +35,7 @@ few_calls groups rank calls lawful =
     (λ (few : length calls ≤ most_calls). few)
     (cases_lt most_calls (length calls))
 
--- so a call stands before the most
+-- so a call's place is before the most
 pub place_few : (groups : Groups) (recording : Lists) (rank place : ℕ) (call : Call) → IsLawful groups recording → slice_get (calls_of recording rank) place ≡ Some call → place < most_calls
 place_few groups recording rank place call lawful h =
     let within = slice_get_within (calls_of recording rank) place call h in

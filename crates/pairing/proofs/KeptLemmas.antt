@@ -43,7 +43,7 @@ call_noted notes rank place =
     ap (λ (calls : List Call). slice_get calls place) (calls_of-recorded notes rank)
     ∙ slice_get-map (λ (n : Noted). n.call) (notes_of notes rank) place
 
--- where nothing is noted no call stands
+-- where nothing is noted there is no call
 pub no_call : (notes : List (List Noted)) (rank place : ℕ) → slice_get (notes_of notes rank) place ≡ None → slice_get (calls_of (recording_of notes) rank) place ≡ None
 no_call notes rank place h = call_noted notes rank place ∙ ap (option_map (λ (n : Noted). n.call)) h
 
@@ -111,7 +111,7 @@ abbrev picked_among : {A : Type 0} → Call → List A → List A
 picked_among (Waitany chosen reqs) xs = take 1 (drop chosen xs)
 picked_among _ xs = xs
 
--- a start stands with the request of the same index
+-- a start is kept with the request of the same index
 cached : (f : ℕ → Option ℕ) (starts reqs : List ℕ) (index : ℕ) → map (λ start. Some start) starts ≡ map f reqs → slice_get starts index ≡ option_and_then f (slice_get reqs index)
 cached f [] [] index h = refl
 cached f [] (req ∷ reqs) index h = cc

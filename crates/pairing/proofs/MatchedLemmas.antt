@@ -133,7 +133,7 @@ written_rest keys lists half e number ps is h f differs = by_number (number_in k
         let one = list_no_one h half m number same in
         differs (one.0, one_number keys e f number is (theirs ∙ ap (λ (k : ℕ). Some k) one.1)))
 
--- an envelope has the number at which it stands
+-- an envelope has the number at which it is
 pub own_number : (keys : List Envelope) (e : Envelope) (number : ℕ) → IsDistinct same_envelope keys → slice_get keys number ≡ Some e → number_in keys e ≡ Some number
 own_number keys e number distinct is =
     let within = slice_get_within keys number e is in

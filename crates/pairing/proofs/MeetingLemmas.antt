@@ -59,7 +59,7 @@ filed_other half h e f place filing differs =
     (λ (isnt : is_half half h ≡ false). rw isnt refl)
     (cases_Bool (is_half half h))
 
--- the last element of a list, and what stands before it
+-- the last element of a list, and what is before it
 pub get_last : {A : Type 0} (xs : List A) (x y : A) (i : ℕ) → length xs ≤ i → slice_get (xs ++ x ∷ []) i ≡ Some y → (i ≡ length xs) × (x ≡ y)
 get_last [] x y zero past h = (refl, same_Some x y h)
 get_last [] x y (suc i) past h = absurd (none-some y h)
@@ -120,7 +120,7 @@ module _ (groups : Groups) (filing : Filing) (half : Half) (e : Envelope) (rank 
       (λ (differs : f ≡ e → ⊥). ap (λ (ps : List ℕ). slice_get ps number) (filed_other half h e f place filing differs) ∙ found)
       (envelope_cases e f)
 
-  -- what stands in the lists stood there, or is the new half
+  -- what is in the lists was there, or is the new half
   abbrev Stood : Half → Envelope → ℕ → ℕ → Type 0
   Stood h f number p = (slice_get (filing h f) number ≡ Some p) ⊎ ((h ≡ half) × (f ≡ e) × (number ≡ length (filing half e)) × (p ≡ place))
 
@@ -154,7 +154,7 @@ module _ (groups : Groups) (filing : Filing) (half : Half) (e : Envelope) (rank 
       let before : p < place = last f number p (theirs ∙ ap (λ (m : ℕ). Some m) is_rank) found in
       absurd (omega (arith, before, is_place))
 
-  -- and so each half stands once
+  -- and so each half is there once
   pub once_more : ((h : Half) (f : Envelope) (number other p : ℕ) → slice_get (filing h f) number ≡ Some p → slice_get (filing h f) other ≡ Some p → number ≡ other) → (h : Half) (f : Envelope) (number other p : ℕ) → slice_get (filed_on half (Some e) place filing h f) number ≡ Some p → slice_get (filed_on half (Some e) place filing h f) other ≡ Some p → number ≡ other
   once_more once h f number other p found found' =
       ⊎_elim
@@ -176,7 +176,7 @@ module _ (groups : Groups) (filing : Filing) (half : Half) (e : Envelope) (rank 
           (subst (λ (x : Envelope). slice_get (filing half x) n ≡ Some p) is_f (subst (λ (x : Half). slice_get (filing x f) n ≡ Some p) is_h there))
           refl is_p
 
-  -- each half stands under the envelope of its call
+  -- each half is under the envelope of its call
   pub placed_more : (C : Half → ℕ → ℕ → Option Envelope) → C half rank place ≡ Some e → ((h : Half) (f : Envelope) (number r p : ℕ) → rank_of_half groups h f ≡ Some r → slice_get (filing h f) number ≡ Some p → C h r p ≡ Some f) → (h : Half) (f : Envelope) (number r p : ℕ) → rank_of_half groups h f ≡ Some r → slice_get (filed_on half (Some e) place filing h f) number ≡ Some p → C h r p ≡ Some f
   placed_more C here placed h f number r p theirs found =
       ⊎_elim

@@ -35,7 +35,7 @@ notes_of-other notes rank other noted differs =
     ∙ get_or-set_other notes rank other (notes_of notes rank ++ noted ∷ []) [] differs
     ∙ sym (unwrap_or-slice_get notes other [])
 
--- what stands before a place of a list stays as one more is added
+-- what is before a place of a list stays as one more is added
 before_stays : (list : List Noted) (noted : Noted) (place : ℕ) → place ≤ length list → take place (calls_in (list ++ noted ∷ [])) ≡ take place (calls_in list)
 before_stays list noted place within =
     ap (take place) (map_push (λ n. n.call) list noted)

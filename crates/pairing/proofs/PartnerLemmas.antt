@@ -24,7 +24,7 @@ map_pair rank other there (Some place) h =
     let parts = some_pair_parts rank other place there h in
     (parts.0, ap (λ (m : ℕ). Some m) parts.1)
 
--- a rank of a group stands in the group at its rank there
+-- a rank of a group is in the group at its rank there
 rank_of_member : (groups : Groups) (comm rank g : ℕ) → group_rank_of groups comm rank ≡ Some g → world_rank_of groups comm g ≡ Some rank
 rank_of_member groups comm rank g h =
     let found = position-Some (λ member. eqb member rank) (group_of groups comm) g 0 h in
@@ -110,7 +110,7 @@ own_place groups recording rank place half e own =
     place_nth 0 (has_envelope groups rank half e) (calls_of recording rank) place own.call own.stands_there (it_has e (envelope_of groups rank half own.call) own.envelope)
     ∙ ap (λ (m : ℕ). Some m) (omega arith)
 
--- what stands at a numbered place
+-- what is at a numbered place
 pub numbered_half : (groups : Groups) (recording : Lists) (rank place : ℕ) (half : Half) (e : Envelope) (number : ℕ) → slice_get (places_of groups recording rank half e) number ≡ Some place → HasHalf groups recording rank place half e × (number_of groups recording rank half e place ≡ number)
 numbered_half groups recording rank place half e number h =
     let nth = nth_place 0 (has_envelope groups rank half e) (calls_of recording rank) number place h in

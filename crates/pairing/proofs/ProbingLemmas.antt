@@ -244,7 +244,7 @@ sits_more groups recording seating old new rank call e is_rank is_probe sits are
         (differ g e (is_same_envelope g e) refl))
         (differ f e (is_same_envelope f e) refl)
 
--- a call that is no probe stands nowhere among them
+-- a call that is no probe is nowhere among them
 was_there : (groups : Groups) (recording : Lists) (rank : ℕ) (call : Call) (r place : ℕ) (f : Envelope) → rank < length recording → probed_envelope groups rank call ≡ None → probed_envelope_at groups (appended recording rank call) r place ≡ Some f → WasThere groups recording r place f
 was_there groups recording rank call r place f is_rank none h =
     ⊎_elim (λ (there : WasThere groups recording r place f). there) (λ (it : IsLast groups recording rank call r place f). absurd (none-some f (sym none ∙ it.probes))) (which groups recording rank call r place f is_rank h)
@@ -417,7 +417,7 @@ seats_stay groups recording seating old new seats opens are = record {
   some = λ there. are.some (rw seats at there);
 }
 
--- with each probe may stand more than is said
+-- with each probe more may be kept than is said
 pub reseated : (groups : Groups) (recording : Lists) (f g : Seating) (probes : Probes) → ((r p s : ℕ) → f r p ≡ Some s → g r p ≡ Some s) → AreSeated groups recording f probes → AreSeated groups recording g probes
 reseated groups recording f g probes more are = record {
   seat = λ r place e h.

@@ -25,7 +25,7 @@ get_take (suc n) (y ∷ ys) (suc i) x h =
     let rest = get_take n ys i x h in
     (omega (arith, rest.0), rest.1)
 
--- where some element passes, it stands somewhere
+-- where some element passes, it is somewhere
 pub record Found {A : Type 0} (test : A → Bool) (xs : List A) : Type 0 where
   pub index : ℕ
   pub element : A

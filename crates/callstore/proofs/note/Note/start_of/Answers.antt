@@ -1,4 +1,4 @@
--- The first start whose call starts the request stands with the first such request.
+-- The first start whose call starts the request is kept with the first such request.
 use Rattle.std.proofs.Common.{ℕ, ◌==◌, find, List, sym, ap, ◌∙◌}
 use Rattle.callstore.specs.inner.Packed.{req_at}
 use Rattle.callstore.proofs.StartLemmas.{start_found}

@@ -1,4 +1,4 @@
--- What stands with the request is what started it.
+-- What is kept with the request is what started it.
 use Rattle.std.proofs.Common.{sym, ◌∙◌}
 use Rattle.pairing.proofs.KeptLemmas.{started_noted}
 use Rattle.pairing.proofs.kept.Kept.started_of.Goals as goal
