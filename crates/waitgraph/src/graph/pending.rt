@@ -1,13 +1,14 @@
 //! The wait graph where pending calls and sinks are known.
 
-ghost use Rattle.std.specs.Prelude.{◌≡◌, ◌<◌, ◌||◌, ◌&&◌, map, IfOk};
-ghost use Rattle.std.specs.List.{list_any};
+ghost use Rattle.std.specs.Prelude.{◌≡◌, ◌<◌, ◌||◌, not, ◌&&◌, length, map, IfOk};
+ghost use Rattle.std.specs.List.{filter, list_any, range_with_len};
+ghost use Rattle.findings.specs.Findings.{findings_of};
 ghost use Rattle.moves.specs.Stands.{stands_of};
 ghost use Rattle.waitgraph.specs.Causes.{view_of as cause_view};
 ghost use Rattle.waitgraph.specs.Held.{is_some_left_open};
 ghost use Rattle.waitgraph.specs.Pending.{view_of};
 ghost use Rattle.waitgraph.specs.PendingGraphs.{is_sink_at, is_left_out, findings_by, IsGraphWith, WithoutPendingItIsTheGraph};
-ghost use Rattle.waitgraph.specs.PendingCauses.{WalksEndInTheCausesBy};
+ghost use Rattle.waitgraph.specs.PendingCauses.{AreCausesBy, WalksEndInTheCausesBy};
 ghost use Rattle.waitgraph.specs.PendingStays.{FitsSinks, StayPutBy};
 ghost use Rattle.waitgraph.specs.PendingVerdicts.{GraphsHaveTheVerdict};
 ghost use Rattle.waitgraph.specs.inner.Causes.{causes_in};
