@@ -14,11 +14,10 @@ use Rattle.waitgraph.specs.Causes.{CauseView}
 use Rattle.waitgraph.specs.Pending.{PendingView}
 use Rattle.waitgraph.specs.declared.awaited.Awaited.{Awaited}
 use Rattle.report.specs.PendingReport.{has_lines, data_of_rank, pending_data, pending_json}
-use Rattle.waitgraph.specs.Stuck.{stuck_of}
 use Rattle.waitgraph.specs.declared.verdict.Verdict.{Verdict}
 use Rattle.report.specs.inner.ArrayTexts.{values_text, elements_text, key_text}
-use Rattle.report.specs.JsonReport.{each, cause_data, finding_data, rank_data}
-use Rattle.report.specs.Judged.{judged_data, judged_json, left_data, line_data}
+use Rattle.report.specs.JsonReport.{each, cause_data, finding_data}
+use Rattle.report.specs.Judged.{left_data, line_data}
 use Rattle.report.specs.TextReport.{verdict_text}
 use Rattle.report.specs.declared.judged.LeftAt.{LeftAt}
 use Rattle.report.specs.declared.judged.LineAt.{LineAt}
@@ -74,18 +73,7 @@ object_parts verdict causes found left called values =
     ∙ ap (λ (text : List ℕ). why ++ text) second))
     ∙ behind_key (codes "{") (codes "causes") (codes ":") (why ++ (key_text (codes ",") (codes "findings") (codes ":[") ++ (elements_text finding_data found ++ left_more)))
 
-pub judged_parts : (reading : Reading) (groups : Groups) (recording : Lists) (verdict : Verdict) (causes : List CauseView) (found : List Finding) (left : List LeftAt) (called : List LineAt) →
-    judged_json reading groups recording verdict causes found left called
-    ≡ key_text (codes "{") (codes "causes") (codes ":") ++ (compact_text (each cause_data causes)
-    ++ (key_text (codes ",") (codes "findings") (codes ":[") ++ (elements_text finding_data found
-    ++ (key_text (codes "],") (codes "left") (codes ":[") ++ (elements_text left_data left
-    ++ (key_text (codes "],") (codes "lines") (codes ":[") ++ (elements_text line_data called
-    ++ (key_text (codes "],") (codes "ranks") (codes ":[") ++ (elements_text (rank_data reading groups recording) (stuck_of reading groups recording)
-    ++ (key_text (codes "],") (codes "verdict") (codes ":") ++ (compact_text (string (verdict_text verdict)) ++ codes "}\n")))))))))))
-unfolding judged_json judged_data
-judged_parts reading groups recording verdict causes found left called = object_parts verdict causes found left called (map (rank_data reading groups recording) (stuck_of reading groups recording))
-
--- the same where it is known in which calls ranks were
+-- the report of journals by its parts, where it is known in which calls ranks were
 pub pending_parts : (reading : Reading) (groups : Groups) (recording : Lists) (verdict : Verdict) (pending : List PendingView) (at_open : List (List Awaited)) (causes : List CauseView) (found : List Finding) (left : List LeftAt) (called : List LineAt) →
     pending_json reading groups recording verdict pending at_open causes found left called
     ≡ key_text (codes "{") (codes "causes") (codes ":") ++ (compact_text (each cause_data causes)

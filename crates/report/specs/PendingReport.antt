@@ -1,7 +1,7 @@
 -- The report of journals where it is known in which calls ranks were: as `Judged` says, and with rank lines of held ranks
 -- at their opens. Their call is the pending one.
 use Rattle.mpicall.specs.Names.{Rank}
-use Rattle.std.specs.Prelude.{ℕ, nat_lt, true, ◌&&◌, ◌||◌, not, Bool, Option, Some, None, unwrap_or, if◌then◌else◌, List, [], ◌∷◌, ◌++◌, codes, flat_map, length, map, slice_get, slice_index}
+use Rattle.std.specs.Prelude.{ℕ, nat_lt, true, ◌&&◌, ◌||◌, Bool, Option, Some, None, unwrap_or, if◌then◌else◌, List, [], ◌∷◌, ◌++◌, codes, flat_map, length, map, slice_get, slice_index}
 use Rattle.std.specs.Fmt.{decimal}
 use Rattle.std.specs.List.{filter, range_with_len}
 use Rattle.serde_json.specs.Data.{Data, string, array, object, item, no_items, member, no_members}

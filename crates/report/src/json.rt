@@ -8,7 +8,6 @@ ghost use Rattle.waitgraph.specs.Graphs.{IsGraphOf};
 ghost use Rattle.waitgraph.specs.Verdicts.{verdict_by};
 ghost use Rattle.report.specs.JsonReport.{each, cause_data, json_report};
 ghost use Rattle.waitgraph.specs.Pending.{view_of as pending_view};
-ghost use Rattle.report.specs.Judged.{judged_json};
 ghost use Rattle.report.specs.PendingReport.{pending_json};
 ghost use Rattle.report.specs.inner.Opened.{TellsOf};
 ghost use Rattle.report.specs.TextReport.{verdict_text};
@@ -77,35 +76,7 @@ pub(crate) fn json_text(
     Ok(text)
 }
 
-/// The JSON report of the recording of journals.
-pub(crate) fn judged_json_text(
-    alloc: Global,
-    analyser: &Analyser,
-    graph: &Graph,
-    judged: &Judged<'_>,
-) -> Result<String, AllocError>
-    requires { IsGraphOf analyser.now.reading analyser.now.groups analyser.now.recording graph.now }
-    ensures { IfOk result (λ text. string_bytes text
-        ≡ judged_json analyser.now.reading analyser.now.groups analyser.now.recording (verdict_by graph.now.held graph.now.left_open) graph.now.causes judged.now.findings.now judged.now.left.now judged.now.lines.now) }
-{
-    let mut text = String::new(alloc);
-    push_key(alloc, &mut text, "{", "causes", ":")?;
-    push_causes(alloc, &mut text, graph.causes())?;
-    push_key(alloc, &mut text, ",", "findings", ":[")?;
-    push_findings(alloc, &mut text, judged.findings)?;
-    push_key(alloc, &mut text, "],", "left", ":[")?;
-    push_left(alloc, &mut text, judged.left)?;
-    push_key(alloc, &mut text, "],", "lines", ":[")?;
-    push_lines(alloc, &mut text, judged.lines)?;
-    push_key(alloc, &mut text, "],", "ranks", ":[")?;
-    push_ranks(alloc, &mut text, analyser, graph)?;
-    push_key(alloc, &mut text, "],", "verdict", ":")?;
-    push_verdict(alloc, &mut text, graph.verdict())?;
-    text.push_str("}\n")?;
-    Ok(text)
-}
-
-/// The same where it is known in which calls ranks were.
+/// The JSON report of the recording of journals, where it is known in which calls ranks were.
 pub(crate) fn pending_json_text(
     alloc: Global,
     run: &PendingRun<'_>,

@@ -10,11 +10,11 @@ ghost use Rattle.waitgraph.specs.Graphs.{IsGraphOf};
 ghost use Rattle.waitgraph.specs.Verdicts.{verdict_by};
 ghost use Rattle.report.specs.inner.Printing.{with_fields, PrintsAll, Prints};
 ghost use Rattle.findings.specs.Places.{call_at};
-ghost use Rattle.report.specs.Judged.{judged_text, left_line};
+ghost use Rattle.report.specs.Judged.{left_line};
 ghost use Rattle.report.specs.TextReport.{cause_line, finding_line, need_fields, rank_lines, text_report, unmet_line, verdict_line, verdict_text};
 
 use crate::finding::push_finding;
-use crate::judged::{Judged, LeftAt, MOST_WORDS};
+use crate::judged::{LeftAt, MOST_WORDS};
 use crate::stand::stand_of;
 use crate::write::printer::{Printer, ROOM_BYTES};
 use findings::finding::Finding;
@@ -332,25 +332,4 @@ pub(crate) fn write_all_left<O: Output>(printer: &mut Printer, out: &mut O, left
     for one in left {
         write_left(printer, out, one);
     }
-}
-
-/// Writes the report of the recording of journals as text.
-pub(crate) fn write_judged_text<O: Output>(
-    analyser: &Analyser,
-    graph: &Graph,
-    judged: &Judged<'_>,
-    out: &mut O,
-) -> Result<(), DeviceFault>
-    requires graph { IsGraphOf analyser.now.reading analyser.now.groups analyser.now.recording graph.now }
-    requires short { All (λ one. length one.why.now ≤ MOST_WORDS) judged.now.left.now }
-    ensures { PrintsAll (O.written out.old) (O.failures out.old) (O.written out.new) (O.failures out.new)
-        (judged_text analyser.now.reading analyser.now.groups analyser.now.recording (verdict_by graph.now.held graph.now.left_open) graph.now.causes judged.now.findings.now judged.now.left.now) result }
-{
-    let mut printer = Printer::new();
-    push_verdict(&mut printer.page, graph.verdict());
-    write_ranks(&mut printer, out, analyser, graph, graph.stuck());
-    write_causes(&mut printer, out, graph.causes());
-    write_findings(&mut printer, out, judged.findings);
-    write_all_left(&mut printer, out, judged.left);
-    printer.finish(out)
 }
