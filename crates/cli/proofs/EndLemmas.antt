@@ -24,7 +24,7 @@ tells_line status.Usage fault out err wants left tried = (left, tried)
 tells_line status.Fault fault out err wants left tried = (left, tried)
 tells_line ended fault out err wants left tried = absurd wants
 
--- where memory is wanted for a fault's line, that may be told of the same words
+-- where memory runs out for a fault's line, that may be reported of the same words
 memory_may_be : (fate : Text → Fate → Type 0) (told : Text → Option Text) (named : Text → Option Bool) (asked : CommandLine) (fault : Fault) → IsFaultOf fate told named asked fault → fault ≢ Write → IsFaultOf fate told named asked Memory
 memory_may_be fate told named (Check head files options progress) fault is_fault other = tt
 memory_may_be fate told named (Lint file) fault is_fault other = tt

@@ -12,7 +12,7 @@ pub data Fate : Type 0 where
 -- the inputs of an opener, of which are known the bytes that are left, and how many reads have failed; and what the
 -- opener may answer where a path is to be opened
 module _ {I : Type 0} (left : I → Option (List ℕ)) (failures : I → ℕ) (may_give : List ℕ → Option I → Type 0) where
-  -- the opener gave an input for the path, and behind some of its bytes one read of it failed
+  -- the opener gave an input for the path, and after some of its bytes one read of it failed
   pub record HasFailedRead (path : List ℕ) : Type 0 where
     pub given : I
     pub is_given : may_give path (Some given)

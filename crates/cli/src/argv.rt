@@ -77,7 +77,7 @@ fn words_given(rt: &(impl Env + AllocGlobal)) -> Result<Vec<String>, WordsFault>
     Ok(words)
 }
 
-/// The same words, as the program takes them.
+/// Words as the texts that the program takes.
 fn as_texts<'a>(alloc: Global, words: &'a [String]) -> Result<Vec<&'a str>, AllocError>
     ensures { IfOk result (λ texts. map (λ text. text.now) texts.items ≡ map string_bytes words.now) }
 {

@@ -39,6 +39,7 @@ fn read_front<'a, I: Input>(alloc: Global, input: &mut I) -> Result<Vec<u8>, Fau
 {
     let mut front = Vec::new(alloc);
     let mut piece = [0; PIECE];
+    // The proof names the loop by its label.
     'pieces: while front.len() < DECIDING_BYTES {
         let most = PIECE.min(DECIDING_BYTES - front.len());
         let count = match input.read_some(&mut piece[..most]) {

@@ -206,7 +206,7 @@ fn is_source_failure(fault: SourceFault) -> bool
     )
 }
 
-/// The same of a rank's fault.
+/// Whether a rank's fault is no fault of its bytes or calls, but came from outside.
 fn is_failure(fault: RankFault) -> bool
     ensures { result ≡ is_from_outside fault }
 {

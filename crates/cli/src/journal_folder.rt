@@ -83,8 +83,8 @@ fn close_into<J: Journals, M: Maker>(
     Ok(())
 }
 
-/// The same of the journals in a folder. Each command reads files of one type, so that what reads their lines is
-/// compiled once, and inlined.
+/// As `close`, of the journals in a folder and into the folder with a path. Each command reads files of one type, so
+/// that what reads their lines is compiled once, and inlined.
 pub(crate) fn close_folder<P: Opener, M: Maker>(
     journals: &JournalFolder<'_, '_, P>,
     choice: Choice,

@@ -1,5 +1,5 @@
-//! The program `mpiwait` over any words, files and outputs: what its words ask for, the check or the lint that
-//! does it, its texts and its exit statuses.
+//! The program `mpiwait` over any words, files and outputs: what its words ask for, the check, the lint, the
+//! judgement or the closing that does it, its texts and its exit statuses.
 //!
 //! - `argv::run` runs it on the words of the process, in which a folder is replaced by its files, and gives what
 //!   ends the process with the status.
@@ -11,7 +11,8 @@
 //!
 //! What is on both outputs at the end, by the words and by the texts of the files, is the contract of
 //! `program`; that of `argv::run` says the same of some words. The definitions are in `specs/`: `CommandLine` for
-//! the words, `Options` for the options, `ExitContract` for the end, `Texts` and `Lints` for what a check and a lint answer.
+//! the words, `Options` for the options, `ExitContract` for the end, `Texts` and `Lints` for what a check and a lint
+//! answer, `Journals` and `JournalFolders` for `judge` and `close`.
 //! What only proofs and private contracts cite is in `specs/inner/`, and nobody has to believe it.
 #![tactic(auto)]
 

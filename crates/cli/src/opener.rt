@@ -160,7 +160,7 @@ where
     }
 }
 
-/// A folder of the machine that is made, where nothing stands under its path. What its files hold isn't known.
+/// A folder of the machine that is made, where nothing is under its path. What its files hold isn't known.
 #[derive(Drop)]
 pub struct DiskFolder<'a, R> {
     files: &'a R,

@@ -272,8 +272,8 @@ fn tell<E: Output>(fault: Fault<'_>, line: &str, err: &mut E) -> Status
     fault.status()
 }
 
-/// The same, also where there is no memory for the line: that is reported then. The line of a failed write
-/// takes none, so it says what became of the other output.
+/// Makes and writes the line of a fault, and gives the exit status; where there is no memory for the line, that is
+/// reported. The line of a failed write takes none, so it says what became of the other output.
 fn tell_fault<E: Output>(alloc: Global, fault: Fault<'_>, err: &mut E) -> Status
     ensures { TellsFaultLine E.written E.failures err.old err.new fault.entry result }
 {

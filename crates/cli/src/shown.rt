@@ -113,7 +113,7 @@ fn check_paths<'a, P: Opener, O: Output, T: Tracker, R: Threads + Wait + Sync>(
     )
 }
 
-/// The same, while the viewer shows how far that is.
+/// Checks as `check` does, while the viewer shows how far that is.
 fn check_viewed<'a, P, O, T, L, R>(
     alloc: Global,
     paths: &Paths<'_, 'a>,
@@ -210,7 +210,7 @@ fn judge_folder<P: Opener, O: Output, T: Tracker>(
     judge(journals.alloc, journals, judged, tracker, wait, out)
 }
 
-/// The same, while the viewer shows how far that is.
+/// Judges the journals in a folder as `judge` does, while the viewer shows how far that is.
 fn judge_viewed<P, O, T, L, R>(
     journals: &JournalFolder<'_, '_, P>,
     judged: JudgeManner,

@@ -160,7 +160,7 @@ pends_sunk line came_back outcome pending idle steps (Err (Left Cut)) handed pro
 pends_sunk line came_back outcome pending idle steps (Err (Left NotJudged)) handed progress new e back put = absurd put
 pends_sunk line came_back outcome pending idle steps (Err (Left NoJournal)) handed progress new e back put = absurd put
 
--- a message alone is waited for behind steps of which the list has the records
+-- a message alone is waited for after steps of which the list has the records
 pub pends_message : (line : ℕ) (steps : List Step) (pending : PendingCall) (wanted : Wanted) (result : Result Bool Stop) (handed : Handed) (progress : Progress) (old : Pending) (new : Walk)
     → PendsFor result old new.pending wanted → record { is_for_all = old.is_for_all; items = old.items.items ++ item.Message wanted ∷ [] } ≡ pending
     → (pending_said new.pending ≡ pending → IsPendingAfter line steps pending handed progress new)
@@ -355,7 +355,7 @@ goes_by line line' came_back outcome pending idle steps result handed progress o
     (subst (λ n. PutsSteps n steps result handed progress new) (sym el)
     (takes handed progress stands kept (subst (λ n. AllFit progress n steps) el (subst (λ o. AllFit progress line (steps_if o)) e fits))))
 
--- and a call is pending behind them
+-- and a call is pending after them
 pub pends_goes : (line line' : ℕ) (came_back : Bool) (outcome : Option Outcome) (pending idle : PendingCall) (pend : Progress → PendingCall) (steps : List Step) (result : Result Bool Stop) (handed : Handed) (progress : Progress) (old new : Walk)
     → line ≡ line' → outcome ≡ Some (Ends steps Open (Some NeverCameBack)) → came_back ≡ false → pend progress ≡ pending → TakesPending line' steps pend result old new
     → Stands handed progress old.list → IsKept progress.records old → AllFit progress line (steps_if outcome) → IsSunkBy line came_back outcome pending idle result handed progress new

@@ -125,7 +125,7 @@ cut_after handed progress line id call own wanted is_known new plain before = re
   kept = kept_before progress.records _ line id new plain before.kept;
 }
 
--- a sink behind it
+-- a sink after it
 pub then_sink : (result : Result Bool Stop) (handed : Handed) (progress : Progress) (line : ℕ) (id : Id) (call : ℕ → Call) (own : Option ℕ) (wanted : Wanted) (is_known : Bool) (new : Walk)
     → IsPlain id → PutsSteps line (sink_step own wanted is_known ∷ []) result handed (after_step progress line (Starts id call)) new
     → PutsSteps line (Starts id call ∷ sink_step own wanted is_known ∷ []) result handed progress new
@@ -186,7 +186,7 @@ first_stops_by {A} r stop result handed progress line id call own wanted is_know
     (first_stops A stop handed progress line id call own wanted is_known old new stands kept same
     (subst (λ v. ComesTo {A = A} v handed (after_step progress line (Starts id call)) line new.list) er cut))
 
--- ---- The same, with a pending call behind ----
+-- ---- Such steps, with a pending call after them ----
 
 -- the list is too long
 pub pends_cut : (pending : PendingCall) (stop : Stop) (steps : List Step) (handed : Handed) (progress : Progress) (line : ℕ) (new : Walk)

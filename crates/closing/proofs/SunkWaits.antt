@@ -239,7 +239,7 @@ module _ (spot : Spot) (came_back : Bool) (requests : List ℕ) (past names : Bo
 
 -- ---- A wait that is pending ----
 
--- with items behind none
+-- with items after none
 pub only_items : (it : Pending) (items : List Item) → pending_said it ≡ unknown → with_items it items ≡ for_all items
 only_items it items e = ap (λ (call : PendingCall). record { is_for_all = call.is_for_all; items = call.items ++ items }) e
 

@@ -190,7 +190,7 @@ kept_steps walk line p steps none kept =
     let grown = unsunk_steps line p steps none in
     kept_on walk p.records grown.more (after_steps p line steps).records grown.records grown.all kept
 
--- also of a list that is cut behind those before
+-- also of a list that is cut after those before
 pub cut_steps : (n line : ℕ) (p : Progress) (steps : List Step) → StartNone steps → length p.records ≤ n
     → sinks_from 0 (take n (after_steps p line steps).records) ≡ sinks_from 0 p.records
 cut_steps n line p steps none h =

@@ -1,4 +1,4 @@
--- What a list has where it goes on behind receives of which it was never reported what they took: their sinks. What
+-- What a list has where it goes on after receives of which it was never reported what they took: their sinks. What
 -- stands for its entries, and where it ends, by the sinks before them; and the call that its rank was in.
 use Rattle.std.specs.Prelude.{ℕ, pos, Bool, true, false, ◌&&◌, ◌||◌, not, ◌==◌, Option, Some, None, is_some, is_none, option_and_then, if◌then◌else◌, List, [], ◌∷◌, ◌++◌}
 use Rattle.std.specs.List.{find, list_any}

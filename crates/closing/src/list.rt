@@ -287,7 +287,7 @@ impl List {
         self.add(&start.call(number))
     }
 
-    /// The same; answers the number of the request.
+    /// Puts a line that starts a request that no line names; answers the number of the request.
     pub(crate) fn starts_numbered(&mut self, start: Start) -> Result<u32, Stop>
         ensures comes { (handed : Handed) (progress : Progress) (line : ℕ) (id : Id) → Stands handed progress self.old → IsTrue (in_ranges (start_call start 0)) → IsUnnamed id → ComesTo result handed (after_step progress line (Starts id (start_call start))) line self.new }
         ensures number { IfOk result (λ number. (handed : Handed) (progress : Progress) → Stands handed progress self.old → number ≡ least_free progress.active) }

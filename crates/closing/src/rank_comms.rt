@@ -165,7 +165,7 @@ impl RankComms {
         self.own
     }
 
-    /// The same, where there is a number.
+    /// The key of a communicator by the rank's own number, where there is such a number.
     pub(crate) fn key_if(&self, comm: Option<u32>) -> Option<u32>
         ensures { (table : Table) (comms : say.RankComms) → HasComms table self.now comms → IsPlaceOf table result (option_and_then (key_under comms) comm) }
     {
@@ -217,7 +217,7 @@ impl RankComms {
         self.take_counted(keys, &called, on)
     }
 
-    /// The same of one that counts, or that doesn't: what it brings is sought.
+    /// Takes a call, whether it counts or not: what it brings is sought.
     #[inline(never)]
     fn take_counted(
         &mut self,

@@ -62,7 +62,7 @@ impl Standing {
         self.matched.get(&request).copied()
     }
 
-    /// The same; where there is none, another.
+    /// The message that a request takes, if it is that of a started matched receive; else the other.
     #[inline(always)]
     fn message_or(&self, request: u32, message: u32) -> u32
         ensures { result ≡ unwrap_or (message_for self.now request) message }

@@ -208,7 +208,7 @@ fn fields_if(lines: &Lines, line: Option<u32>) -> Option<&[Field]>
     }
 }
 
-/// The same; none where there is no line.
+/// The fields of a line; none where there is no line.
 #[inline(always)]
 fn fields_at(lines: &Lines, line: Option<u32>) -> &[Field]
     ensures { result.now ≡ fields_of_line lines.now line }
@@ -513,7 +513,8 @@ impl Walk {
     }
 
     /// Takes an entry, and answers whether it is the end of the rank's calls. The calls that come most often are known
-    /// by their variants where they are taken, so that they need no place in memory.
+    /// by their variants where they are taken: so these need no place in memory where the step is inlined, which the
+    /// kit's build doesn't do.
     #[inline(always)]
     fn take_entry(
         &mut self,
@@ -552,7 +553,7 @@ impl Walk {
         }
     }
 
-    /// The same of any call.
+    /// Takes an entry by any call, and answers whether it is the end of the rank's calls.
     #[inline(never)]
     fn take_any(
         &mut self,
@@ -573,7 +574,7 @@ impl Walk {
         self.take_called(run, lines, entry, &it)
     }
 
-    /// Takes an entry by its call, which is of one variant where it is any: so the variant is known behind this.
+    /// Takes an entry by its call, which is of one variant where it is any: so the variant is known after this.
     #[inline(always)]
     fn take_known(
         &mut self,
@@ -708,8 +709,8 @@ impl Walk {
     }
 
     /// Puts the lines of an entry, or answers why the list ends at it. What is taken by calls is copied, so that a call
-    /// whose variant is known needs no place in memory. Other calls go to
-    /// a function of their own, so that this one stays small enough to be inlined.
+    /// whose variant is known needs no place in memory where this is inlined; the kit's build doesn't inline it. Other
+    /// calls go to a function of their own, so that this one stays small.
     #[inline(always)]
     fn take(
         &mut self,

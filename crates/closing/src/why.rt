@@ -1,7 +1,8 @@
-//! Why an entry stands in no line, or ends its rank's list.
+//! Why an entry has no line, or why it ends its rank's list.
 
 use thiserror::Error;
 
+/// Why an entry has no line, or why it ends its rank's list.
 #[derive(Clone, Copy, Debug, PartialEq, Eq, Error)]
 pub enum Why {
     #[error("never came back")]

@@ -132,7 +132,7 @@ fn take_all_turns<I: Input, G: Gate>(
 }
 
 /// Reads the sources by turns, each to its end, and enters what comes. `turns` has the first turn of each source, so
-/// that no memory is wanted once the first record is read but that of the ledger.
+/// that once the first record is read only the ledger takes memory.
 pub(crate) fn read_in_turns<I: Input + Drop, G: Gate>(
     sources: Vec<Source<I>>,
     turns: Vec<Turn>,

@@ -270,7 +270,7 @@ where
     }
 }
 
-/// The same as `run_by`, with a thread for each source.
+/// Checks a run as `run_by` does, with a thread for each source.
 pub fn run<I, G, O, R>(
     alloc: Global,
     head: Head,

@@ -39,8 +39,8 @@ fn sources_of<'a>(
     Ok(sources)
 }
 
-/// The same as `run_by`, over a text for each rank, in rank order. Of each text it is said what its run answers and
-/// what is written, with no premise but that memory suffices and that threads start.
+/// Checks a run as `run_by` does, over a text for each rank, in rank order. Of each text it is said what its run
+/// answers and what is written, with no premise but that memory suffices and that threads start.
 pub fn run_texts<R: Threads + Wait + Sync>(
     alloc: Global,
     head: Head,

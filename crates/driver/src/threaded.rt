@@ -69,7 +69,7 @@ where
 
 /// Feeds the sources by a thread each, takes what comes until each feed has ended, and answers what came of
 /// each source. All threads have ended when this returns. `started` and `fed` have room for one entry a
-/// source, so that no memory is wanted once the first thread runs.
+/// source, so that no memory is taken once the first thread runs.
 pub(crate) fn in_threads<I, G, T, R>(
     rt: &R,
     sources: Vec<Source<I>>,

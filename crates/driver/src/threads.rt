@@ -160,7 +160,7 @@ impl<I: Input, G: Gate> Started<I, G> {
     }
 
     /// Starts a thread for each source and the feed at its place. `started` has room for them, so that no
-    /// memory is wanted once the first thread runs.
+    /// memory is taken once the first thread runs.
     pub fn start_all<'s, E, R: Threads + Wait + Sync>(
         scope: &Scope<'s, E>,
         rt: &'s R,

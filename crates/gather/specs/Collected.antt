@@ -68,11 +68,11 @@ is_accepting kept rank = is_none (fault_at kept.faults rank) && not kept.wanted
 abbrev pub with_record : Kept → Rank → Call → Kept
 with_record kept rank call = record kept { recording = appended kept.recording rank call }
 
--- the same with a fault of the rank after its records
+-- what is kept with a fault of the rank after its records
 abbrev pub with_fault : Kept → Rank → RankFault → Kept
 with_fault kept rank fault = record kept { faults = slice_set kept.faults rank (Some (length (calls_of kept.recording rank), fault)) }
 
--- the same once memory is wanted
+-- what is kept once memory ran out
 abbrev pub wanting : Kept → Kept
 wanting kept = record kept { wanted = true }
 
@@ -81,7 +81,7 @@ abbrev pub fault_behind_kept : Kept → Rank → Call → Option CallFault
 fault_behind_kept kept rank call = fault_of kept.groups rank (calls_of kept.recording rank) call
 
 -- what is answered of a record, and kept: it is accepted, or it is the rank's first fault, or it is thrown
--- away, since its rank isn't open or since memory is wanted for it
+-- away, since its rank isn't open or since memory ran out for it
 abbrev pub EntersRecord : Rank → Call → Kept → Stepped → Kept → Type 0
 EntersRecord rank call old Stepped.Took new =
     (is_accepting old rank ≡ true) × (fault_behind_kept old rank call ≡ None) × (new ≡ with_record old rank call)

@@ -49,7 +49,7 @@ StopsAs may_answer calls (Torn GateStopped) = may_answer (line_behind (length ca
 StopsAs may_answer calls (Torn ThreadNotStarted) = ⊥
 StopsAs may_answer calls end = ⊤
 
--- how often the gate let the source be asked: for each record, and for the end that the source told
+-- how often the gate let the source be asked: for each record, and for the end that the source answered
 abbrev pub passages : List Call → Ending → ℕ
 passages calls (Torn GateStopped) = length calls
 passages calls end = length calls + 1

@@ -117,7 +117,7 @@ pub fn each_text_has_its_own_mark()
 {}
 
 /// A text whose trace ends without a fault has its end record, `finalize` or `open`, as its last. So a source that
-/// ends well is refused for want of it only where others took that record before.
+/// ends well is refused for lack of it only where others took that record before.
 pub fn a_sealed_text_has_its_end_record()
     ensures { ASealedTextHasItsEndRecord }
 {}

@@ -93,7 +93,7 @@ const EXCHANGE: [Form; 5] = [
     Form::SourceTag,
 ];
 
-/// The same after the requests of the send and of the receive.
+/// The requests of the send and of the receive, and then what an exchange has.
 const STARTED_EXCHANGE: [Form; 7] = [
     Form::NewRequest,
     Form::NewRequest,

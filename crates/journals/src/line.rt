@@ -277,7 +277,7 @@ fn push_after_word(
     push_by_parts(ranks, word, line, into)
 }
 
-/// The same of any word.
+/// Reads what comes after any word, by a function that isn't inlined.
 #[inline(never)]
 fn push_after_any(
     ranks: u32,
@@ -296,7 +296,7 @@ fn push_after_any(
     push_after_word(ranks, word, line, fields, into)
 }
 
-/// The same; of the words that come most often each by what is built for it.
+/// Reads what comes after a word: each of those that come most often by what is built for it.
 #[inline(always)]
 fn push_by_word(
     ranks: u32,
@@ -380,7 +380,7 @@ fn next_any(texts: &mut Texts<'_>) -> Option<Word>
     word_of(text)
 }
 
-/// The same; those that come most often first.
+/// Takes the first text off; answers the word that it is, if it is one. Those that come most often are tried first.
 #[inline(always)]
 fn next_word(texts: &mut Texts<'_>) -> Option<Word>
     ensures { MatchOption result (HasNoWord texts.old) (λ word. HasWord word texts.old texts.new) }

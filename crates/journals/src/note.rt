@@ -63,7 +63,7 @@ fn received_in(fields: &[Field], number: u32) -> Option<(Field, Field)>
     }
 }
 
-/// The same of the start of an exchange.
+/// The source and the tag of the receive of an exchange that the fields of its start say, if it has this request.
 #[inline(never)]
 fn exchanged_in(fields: &[Field], number: u32) -> Option<(Field, Field)>
     ensures { result ≡ receive_in number (Call CallWord.Isendrecv) fields.now }
@@ -185,7 +185,7 @@ impl Note {
         note
     }
 
-    /// The same in its place.
+    /// Makes it in place what it is once a call line names it.
     #[inline(always)]
     pub(crate) fn call(&mut self, word: CallWord, fields: &[Field], line: u32)
         ensures { self.new ≡ called_note word fields.now line self.old }

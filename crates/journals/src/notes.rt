@@ -193,7 +193,7 @@ fn call_requests_first(word: CallWord) -> Option<usize>
     }
 }
 
-/// The same of a report.
+/// How many of the first fields of a report may be requests or messages; None where all may.
 #[inline(always)]
 fn report_requests_first(word: ReportWord) -> Option<usize>
     ensures { result ≡ report_requests_first word }
@@ -206,7 +206,7 @@ fn report_requests_first(word: ReportWord) -> Option<usize>
     }
 }
 
-/// The same of a line.
+/// How many of the first fields of a line may be requests or messages; None where all may.
 #[inline(always)]
 fn requests_first(word: Word) -> Option<usize>
     ensures { result ≡ requests_first word }

@@ -78,7 +78,7 @@ fn has_leading_zero(text: &[u8]) -> bool
     text.len() > 1 && text[0] == b'0'
 }
 
-/// Where the first space of some bytes stands, if they have one.
+/// The place of the first space of some bytes, if they have one.
 #[inline(always)]
 fn space_at(bytes: &[u8]) -> Option<usize>
     ensures { result ≡ position (λ byte. byte == space) bytes.now }

@@ -1,4 +1,4 @@
--- Where each rank stands at its Finalize no list was left open, so what is told free was called so.
+-- Where each rank stands at its Finalize no list was left open, so what is reported free was called so.
 use Rattle.std.proofs.Common.{◌≡◌, ℕ, zero, suc, ◌+◌, ◌-◌, ◌<◌, ◌≤◌, Bool, true, false, not, Option, Some, None, length, refl, sym, ap, ◌∙◌, ⊎_elim, arith}
 use Rattle.std.specs.Prelude.{slice_index}
 use Rattle.std.specs.List.{slice_get, list_any, range_with_len}

@@ -8,7 +8,7 @@ use Rattle.mpicall.specs.Spelling.{space, line_feed}
 use Rattle.closing.specs.Texts.{line_with}
 use Rattle.judging.specs.inner.Heads.{group_lines}
 
--- a word and numbers, each behind a space
+-- a word and numbers, each after a space
 abbrev pub fields_with : List ℕ → List ℕ → List ℕ
 fields_with word numbers = join_with_byte space (word ∷ map decimal numbers)
 

@@ -144,7 +144,7 @@ module _ (known : Known) (manner : Manner) (begun : RecordingView) (run : IsRunO
   cut_fault it analysed choice has rows window Memory is = tt
   cut_fault it analysed choice has rows window Write is = absurd is
 
-  -- a fault of the recording other than want of memory comes of no known files
+  -- a fault of the recording other than lack of memory comes of no known files
   no_run : (fault : JudgeFault) → (IsFresh begun → IsRead begun.run → fault ≡ Memory) → (fault ≡ Memory → ⊥) → HoldNoRun known
   no_run fault lawful other first texts r are h = other (lawful fresh (record { first = first; texts = texts; is_read = h ∙ ap (λ (o : Run). Ok o) (sym (run.same first texts r are h)) }))
 

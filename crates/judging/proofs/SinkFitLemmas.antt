@@ -118,7 +118,7 @@ rise run choice first (suc count) index other sink later less a b same =
     (in_both ours others other later b))
     (in_both ours others index sink a)
 
--- ---- What is behind ----
+-- ---- What comes after ----
 
 record IsCallWith (calls : List Call) (place : ℕ) (m : Message) : Type 0 where
   call : Call

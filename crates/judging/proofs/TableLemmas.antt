@@ -39,7 +39,7 @@ other_row : (rows : List (List ℕ)) (rank other : ℕ) (row : List ℕ) → (ot
 other_row rows rank other row differs =
     unwrap_or-slice_get (set rows rank row) other [] ∙ get_or-set_other rows rank other row [] differs ∙ sym (unwrap_or-slice_get rows other [])
 
--- a place of a row, or of what was put behind it
+-- a place of a row, or of what was put after it
 before_end : (row more : List ℕ) (place : ℕ) → place < length row → slice_get (row ++ more) place ≡ slice_get row place
 before_end [] more place within = absurd (omega (arith, within))
 before_end (line ∷ row) more zero within = refl

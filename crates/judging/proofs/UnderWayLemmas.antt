@@ -45,7 +45,7 @@ sink_beyond place (one ∷ records) n is = by (sink_in one.starts) (λ beyond. s
     by (Some wanted) later h = let same : place ≡ n = cc in omega (arith, same)
     by None later h = let beyond : suc place ≤ n = later h in omega (arith, beyond)
 
--- the first sink is at the place of the first record, or behind it
+-- the first sink is at the place of the first record, or after it
 pub sink_here : (place : ℕ) (one : Written) (records : List Written) → is_at (first_sink place (one ∷ records)) place ≡ is_some (sink_in one.starts)
 sink_here place one records = by (sink_in one.starts)
   where

@@ -17,7 +17,7 @@ use Rattle.judging.specs.declared.read.ReadFault.TheVariants as read
 
 -- ---- Files ----
 
--- by what a file tells when it is made, and what those with a name tell: these are the texts of a recording, of its head
+-- by what is known of a file when it is made, and of those with a name: these are the texts of a recording, of its head
 -- and of each rank's list
 pub record AreFilesOf (empty : Option (List ℕ)) (text : FileName → Option (List ℕ)) (recording : Recording) : Type 0 where
   pub head : Appends empty (text Head) (head_text recording)

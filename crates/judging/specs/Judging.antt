@@ -87,7 +87,7 @@ abbrev pub left_said : LeftAt → LeftWords
 left_said it = record { rank = it.rank; line = it.line; words = it.why.now }
 
 -- groups and lists are those of the run's recording, and what is known and said in addition is of it; each held rank
--- stays where it stands, whether sinks are met or not, however pending calls come back, and whatever stands behind them;
+-- stays where it stands, whether sinks are met or not, however pending calls come back, and whatever comes after them;
 -- where the journals of all ranks are cut, nothing is under way there
 pub record IsRecordingOfRun (run : Run) (choice : Choice) (groups : Groups) (recording : Lists) (pending : PendingKnown) (judged : Judged) : Type 0 where
   pub groups_are : groups ≡ (recording_of run choice).groups
@@ -102,7 +102,7 @@ pub record IsRecordingOfRun (run : Run) (choice : Choice) (groups : Groups) (rec
 -- ---- Reports ----
 
 -- by the manner's reading and by what is known of how lists go on, report and verdict are those of a closed recording;
--- where the files are known, they hold a run, and the recording is that of the run; what is told free was called so
+-- where the files are known, they hold a run, and the recording is that of the run; what is reported free was called so
 pub record IsJudgedReport (known : Known) (manner : Manner) (verdict : Verdict) (report : List ℕ) : Type 0 where
   pub groups : Groups
   pub recording : Lists

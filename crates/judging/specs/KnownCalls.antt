@@ -28,7 +28,7 @@ use Rattle.closing.specs.declared.pending.Sink.{Sink as OwnSink}
 use Rattle.closing.specs.declared.pending.Wanted.{Wanted as OwnWanted}
 use Rattle.judging.specs.NamedCalls.{CallAt, call_at, calls_needed, calls_there}
 
--- how journals are judged: lists go on behind receives whose messages aren't known
+-- how journals are judged: lists go on after receives whose messages aren't known
 abbrev pub judged_choice : ChoiceMade → Choice
 judged_choice it = record { tests = it.tests; calls = it.calls; unreported = unreported.Sinks }
 

@@ -33,8 +33,8 @@ pub enum FileName {
     Trace(u16),
 }
 
-/// Where the files of a recording go: `empty` is what a file tells of its text when it was made, that it has none or
-/// nothing, and `text` what the file with a name tells, once it was taken back.
+/// Where the files of a recording go: `empty` is what is known of a file's text when it was made, that it has none or
+/// nothing, and `text` what is known of the file with a name, once it was taken back.
 pub trait Folder {
     type Out: Output + Drop;
 

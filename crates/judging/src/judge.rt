@@ -131,7 +131,7 @@ fn is_either(first: bool, next: bool) -> bool
     first || next
 }
 
-/// As they are judged, lists go on behind receives whose messages aren't known.
+/// The choice by which journals are judged: lists go on after receives whose messages aren't known.
 fn with_sinks(choice: Choice) -> Choice
     ensures { choice_in result ≡ judged_choice choice }
 {
@@ -318,6 +318,7 @@ fn write_report<O: Output>(
     ensures fault { IfErr result IsLate }
 {
     let verdict = graph.verdict();
+    // For the proof: there are as many lists as the head has ranks.
     let _head = analyser.head();
     let run = PendingRun {
         analyser,

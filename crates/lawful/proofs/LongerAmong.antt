@@ -94,7 +94,7 @@ report_among all own x (line ∷ lines) (other ∷ others) apart (inl here) h =
 report_among all own x (line ∷ lines) (other ∷ others) apart (inr more) h =
     told_find own other.word other.fields (listing_of others) (Some x) more.0.word apart (report_among all own x (line ∷ lines) others apart more.1 h)
 
--- where another call comes behind
+-- where another call comes after
 pub report_same : (all : List Line) (own : ReportWord) (lines others : List Line) → is_report own (Report report.Done) ≡ false → AreAmong all lines others → has_call lines ≡ true → first_report own (listing_of others).early ≡ first_report own (listing_of lines).early
 report_same all own [] others apart among has = absurd (false≢true has)
 report_same all own (line ∷ lines) [] apart among has = absurd among

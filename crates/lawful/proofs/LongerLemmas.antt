@@ -121,7 +121,7 @@ pub record More (placed : Placed) : Type 0 where
 abbrev pub with_more : (placed : Placed) → More placed → Placed
 with_more placed it = record placed { journal = it.later; entry = it.entry; came_back = it.back }
 
--- another call came behind it
+-- another call came after it
 pub record IsOver (placed other : Placed) : Type 0 where
   pub entry : report_of report.Comm other.entry ≡ report_of report.Comm placed.entry
   pub came : placed.came_back ≡ true
@@ -381,7 +381,7 @@ in_same rank (Some journal) (Some later) more lines =
     subst (λ (ls : List Line). with_lines (entries_in rank (Some journal)) (entries_from rank later 2 (comms_first rank) ls) ≡ entries_from rank later 2 (comms_first rank) ls) (sym lines)
     (from_same rank journal later journal.lines more 2 (comms_first rank))
 
--- where lines come behind alone
+-- where lines come after alone
 pub same_lines : (run longer : Run) (rank : ℕ) → HasMore run longer rank → with_lines (entries_at run rank) (entries_at longer rank) ≡ entries_at longer rank
 same_lines run longer rank has = in_same rank (journal_at run rank) (journal_at longer rank) has.more has.lines
 

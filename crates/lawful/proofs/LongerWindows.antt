@@ -30,7 +30,7 @@ last_put : (first : Entry) (entries : List Entry) → is_entry_cut (last_of entr
 last_put first [] h = absurd (false≢true h)
 last_put first (entry ∷ entries) h = h
 
--- the same line in front of both; behind a cut comes nothing
+-- the same line in front of both; after a cut comes nothing
 put_cut : (word : Word) (fields : List Field) (rest : Listing) (others : List Line) → (last_cut rest ≡ true → last_cut (listing_of others) ≡ true) → (ends_journal word ≡ true → others ≡ []) → last_cut (put_line word fields rest) ≡ true → last_cut (put_line word fields (listing_of others)) ≡ true
 put_cut (Report word) fields rest others keeps none h = keeps h
 put_cut (CallLine word) fields rest others keeps none h = by_rest rest.entries refl h

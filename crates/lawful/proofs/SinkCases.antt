@@ -1,4 +1,4 @@
--- What comes of an entry by the sinks before it: nothing else than without them; or a sink, alone or behind a send; or
+-- What comes of an entry by the sinks before it: nothing else than without them; or a sink, alone or after a send; or
 -- nothing; or the list is left open.
 use Rattle.std.proofs.Common.{◌≡◌, ℕ, ◌||◌, not, Bool, true, false, Option, Some, None, is_some, is_none, if◌then◌else◌, List, [], ◌∷◌, ◌++◌, refl, sym, ap, ◌∙◌}
 use Rattle.std.specs.Prelude.{⊤, option_and_then, unwrap_or}

@@ -1,4 +1,4 @@
--- The sinks of a list: each has its place, they are in order, and none takes a message of what is behind it.
+-- The sinks of a list: each has its place, they are in order, and none takes a message of what comes after it.
 use Rattle.std.proofs.Common.{◌≡◌, ℕ, zero, suc, ◌+◌, ◌-◌, ◌<◌, Bool, true, false, Option, Some, None, List, [], ◌∷◌, ◌++◌, length, map, refl, sym, ap, subst, ◌∙◌, ⊎_elim, arith, inl, inr, eq-eqb, append_assoc, length-append}
 use Rattle.std.specs.Prelude.{⊤, is_none, nat_lt, option_map, option_to_list, slice_get}
 use Rattle.std.proofs.lemmas.Bool.{cases_Bool, false≢true}
@@ -184,7 +184,7 @@ each_sink_has_its_place run choice rank index sink h =
     zero_plus : (a : ℕ) → 0 + a ≡ a
     zero_plus a = omega arith
 
--- ---- What is behind them ----
+-- ---- What comes after them ----
 
 cut_apart : (it : Listed) → Pairs Apart it.records → Pairs Apart (cut it).records
 cut_apart it all =

@@ -1,4 +1,4 @@
--- What is behind a sink takes no message that the sink may take.
+-- What comes after a sink takes no message that the sink may take.
 use Rattle.std.proofs.Common.{◌≡◌, ◌⊎◌, ℕ, ◌==◌, ◌&&◌, ◌||◌, not, pos, negsuc, Bool, true, false, Option, Some, None, is_none, if◌then◌else◌, List, [], ◌∷◌, ◌++◌, length, take, refl, sym, ap, subst, ◌∙◌, inl, inr, ⊎_elim, eq-eqb, eqb-true}
 use Rattle.std.specs.Prelude.{⊤, option_and_then, unwrap_or}
 use Rattle.std.specs.List.{position}

@@ -1,4 +1,4 @@
--- Laws of how lists end, and of what is told free.
+-- Laws of how lists end, and of what is reported free.
 use Rattle.std.specs.Prelude.{◌≡◌, ◌↔◌, ◌⊎◌, ◌<◌, ℕ, false, true, Option, Some, None, is_some, is_none, List, [], ◌∷◌, ◌++◌, length, map, slice_get}
 use Rattle.std.specs.List.{list_any, list_all, range_with_len}
 use Rattle.mpicall.specs.declared.call.Call.TheVariants.{Finalize, Open}
@@ -69,20 +69,20 @@ EachFinalizeIsListedThrough =
     ((list_of run choice rank).end ≡ Finalize) ↔
     (AreListedThrough run choice rank (entries_at run rank) × (length (whole_list run choice rank).records < most_records))
 
--- Law: where it is told why a list ends, the list is left open.
+-- Law: a list of which it is reported why it ends is left open.
 abbrev pub WhatIsLeftIsOpen : Type 0
 WhatIsLeftIsOpen =
     (run : Run) (choice : Choice) (rank : ℕ) (why : Why) →
     (list_of run choice rank).why ≡ Some why → (list_of run choice rank).end ≡ Open
 
--- Law: a list of which nothing is told ends with Finalize, if its rank's journal has a finalize, an exit or a cut.
+-- Law: a list of which that isn't reported ends with Finalize, if its rank's journal has a finalize, an exit or a cut.
 abbrev pub WhatIsNotLeftIsAnEnd : Type 0
 WhatIsNotLeftIsAnEnd =
     (run : Run) (choice : Choice) (rank : ℕ) → (list_of run choice rank).why ≡ None →
     list_any (λ placed. is_end placed.called) (entries_at run rank) ≡ true →
     (list_of run choice rank).end ≡ Finalize
 
--- ---- What is told free ----
+-- ---- What is reported free ----
 
 -- a free verdict means that no list is left open
 abbrev pub IsNoneLeftOpen : Lists → Type 0
@@ -97,12 +97,12 @@ pub record HasCalledItsEnd (run : Run) (rank : ℕ) : Type 0 where
   pub are : journal.lines ≡ before ++ last ∷ []
   pub ends : ends_journal last.word ≡ true
 
--- each rank has called its end, and of no list it is told why it ends before that
+-- each rank has called its end, and of no list is it reported why it ends before that
 pub record IsWhole (run : Run) (it : Recording) : Type 0 where
   pub called : (rank : ℕ) → rank < length run → HasCalledItsEnd run rank
   pub none_left : list_all (λ list. is_none list.why) it.lists ≡ true
 
--- Law: what is told free was called so: each rank's journal goes to its end, and nothing of it is left.
+-- Law: what is reported free was called so: each rank's journal goes to its end, and nothing of it is left.
 abbrev pub WhatIsFreeIsWhole : Type 0
 WhatIsFreeIsWhole =
     (run : Run) (choice : Choice) → IsRead run →
@@ -119,7 +119,7 @@ pub record IsOfSink (it : Recording) (left : Left) : Type 0 where
   pub is_line : left.line ≡ written.line
   pub why : (left.why ≡ NeverReported) ⊎ (left.why ≡ NotJudged)
 
--- Law: sinks alone are left of what is told free.
+-- Law: sinks alone are left of what is reported free.
 abbrev pub SinksAloneAreLeft : Type 0
 SinksAloneAreLeft =
     (run : Run) (choice : Choice) → IsRead run → IsNoneLeftOpen (map calls_of (recording_of run choice).lists) →

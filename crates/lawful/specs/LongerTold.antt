@@ -1,4 +1,5 @@
--- Laws of journals in which more is told: what a list has so far stays, too, where messages are reported among its lines.
+-- Laws of journals in which more is reported: what a list has so far stays, too, where messages are reported among its
+-- lines.
 use Rattle.std.specs.Prelude.{◌≡◌, ◌⊎◌, ℕ, true, Option, Some, None, is_some, List, [], ◌∷◌, length}
 use Rattle.journals.specs.Lines.{Line}
 use Rattle.journals.specs.declared.word.Word.TheVariants.{Report}
@@ -23,14 +24,14 @@ pub record IsTold (lines : List Line) (line : Line) : Type 0 where
   pub word : line.word ≡ Report report.Done
   pub untold : (request : ℕ) → is_some (done_in request line.word line.fields) ≡ true → done_of lines request ≡ None
 
--- these lines are among others in their order: in front of each are such reports alone, and any lines come behind
+-- these lines are among others in their order: in front of each are such reports alone, and any lines come after
 abbrev pub AreAmong : List Line → List Line → List Line → Type 0
 AreAmong all [] others = Unit {0}
 AreAmong all (line ∷ lines) [] = ⊥
 AreAmong all (line ∷ lines) (other ∷ others) =
     ((other ≡ line) × AreAmong all lines others) ⊎ (IsTold all other × AreAmong all (line ∷ lines) others)
 
--- each journal goes on so; the rest is as where lines come behind alone
+-- each journal goes on so; the rest is as where lines come after alone
 pub record IsToldMore (run longer : Run) : Type 0 where
   pub ranks : length longer ≡ length run
   pub more : (rank : ℕ) → AreAmong (lines_at run rank) (lines_at run rank) (lines_at longer rank)

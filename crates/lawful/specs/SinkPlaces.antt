@@ -1,4 +1,4 @@
--- Laws of the sinks of lists: each has its place, they are in order, and what is behind one takes no message of it.
+-- Laws of the sinks of lists: each has its place, they are in order, and what comes after one takes no message of it.
 use Rattle.std.specs.Prelude.{◌≡◌, ◌⊎◌, ◌<◌, ℕ, Bool, true, false, ◌&&◌, ◌==◌, Some, List, slice_get}
 use Rattle.std.specs.Option.{option_map_or}
 use Rattle.mpicall.specs.declared.call.Call.{Call}
@@ -46,7 +46,7 @@ takes wanted m =
 abbrev pub HasMessage : Call → Message → Type 0
 HasMessage call m = (message_of RecvHalf call ≡ Some m) ⊎ (probed_message call ≡ Some m)
 
--- Law: no receive or probe behind a sink is of a message that the sink may take.
+-- Law: no receive or probe after a sink is of a message that the sink may take.
 abbrev pub NoneIsBehindASink : Type 0
 NoneIsBehindASink =
     (run : Run) (choice : Choice) (rank index place : ℕ) (sink : Sink) (call : Call) (m : Message) →

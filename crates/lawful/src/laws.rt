@@ -67,17 +67,17 @@ pub fn each_finalize_is_listed_through()
     ensures { EachFinalizeIsListedThrough }
 {}
 
-/// Where it is told why a list ends, the list is left open.
+/// A list of which it is reported why it ends is left open.
 pub fn what_is_left_is_open()
     ensures { WhatIsLeftIsOpen }
 {}
 
-/// A list of which nothing is told ends with `finalize`, if its rank's journal has an end.
+/// A list of which that isn't reported ends with `finalize`, if its rank's journal has an end.
 pub fn what_is_not_left_is_an_end()
     ensures { WhatIsNotLeftIsAnEnd }
 {}
 
-/// If no list is left open, each rank's journal goes to its end, and it is told of none why it ends before that.
+/// If no list is left open, each rank's journal goes to its end, and of none is it reported why it ends before that.
 pub fn what_is_free_is_whole()
     ensures { WhatIsFreeIsWhole }
 {}
@@ -145,7 +145,7 @@ pub fn sinks_are_in_order()
     ensures { SinksAreInOrder }
 {}
 
-/// No receive or probe behind a sink is of a message that the sink may take.
+/// No receive or probe after a sink is of a message that the sink may take.
 pub fn none_is_behind_a_sink()
     ensures { NoneIsBehindASink }
 {}

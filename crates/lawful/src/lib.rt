@@ -6,11 +6,11 @@
 //! are in their ranges is what its text reads as. Of a run that was read: the groups are those of a head, and calls are
 //! in their ranges.
 //!
-//! `specs/Free` has how lists end and what is told free, `specs/Same` which calls are on one communicator. `specs/Plain`
-//! says that journals of plain calls stay the same, `specs/SoFar` that what they have so far stays when they go on;
-//! `specs/Longer` says it of calls of all kinds, where all journals of the run go on, `specs/LongerSinks` of lists that
-//! have sinks; `specs/LongerTold` says both where messages are reported among the lines so far too.
-//! `specs/SinkPlaces` has what sinks have in the lists that `judge` goes by: their places, and what is behind them.
+//! `specs/Free` has how lists end and what is reported free, `specs/Same` which calls are on one communicator.
+//! `specs/Plain` says that journals of plain calls stay the same, `specs/SoFar` that what they have so far stays when
+//! they go on; `specs/Longer` says it of calls of all kinds, where all journals of the run go on, `specs/LongerSinks`
+//! of lists that have sinks; `specs/LongerTold` says both where messages are reported among the lines so far too.
+//! `specs/SinkPlaces` has what sinks have in the lists that `judge` goes by: their places, and what comes after them.
 //!
 //! Lemmas: `RequestLemmas` what one call changes about requests, `StepLemmas` what a step adds, `TableLemmas` that
 //! entries give such steps, `ListLemmas` all calls of a list, `PassLemmas` lists whose records pass a test, `NameLemmas`

@@ -37,7 +37,7 @@ abbrev pub words_of : Position → List ℕ
 words_of position =
     codes "mpiwait: " ++ (decimal position.calls ++ (codes " calls taken" ++ (words_of_earliest position.earliest ++ words_of_read position.percent)))
 
--- the text of an update: on a terminal the cursor goes back before it, and the rest of the line is erased behind it
+-- the text of an update: on a terminal the cursor goes back before it, and the rest of the line is erased after it
 abbrev pub framed : Bool → List ℕ → List ℕ
 framed true words = 13 ∷ (words ++ (27 ∷ codes "[K"))
 framed false words = words ++ codes "\n"

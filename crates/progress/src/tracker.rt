@@ -1,4 +1,4 @@
-//! What is told now and then how far an analyser is.
+//! What is handed an analyser now and then, to see how far it is.
 
 use moves::analyser::Analyser;
 

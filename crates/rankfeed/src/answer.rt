@@ -70,7 +70,7 @@ impl Took {
 }
 
 impl Came {
-    /// The same, where it looks alone.
+    /// The answer of a taker that looks, but doesn't wait, and comes to this end mark.
     pub(crate) fn of(end: Ending) -> Came
         ensures { result ≡ came_end end }
     {

@@ -25,7 +25,7 @@ pub record IsReport (format : Format) (reading : Reading) (groups : Groups) (rec
   pub are_causes : AreCauses reading groups recording causes
   pub is_text : report ≡ report_of format reading groups recording verdict causes
 
--- Only JSON takes memory, and where there is none the output is as it was; a failed write leaves a beginning
+-- Only JSON takes memory, and where there is none the output is as it was; a failed write leaves a prefix
 -- of the report, and adds one to the count of failures.
 abbrev pub LeavesReport : {O : Type 0} → (O → Option (List ℕ)) → (O → ℕ) → O → O → Format → List ℕ → ReportFault → Type 0
 LeavesReport written failures old new format report Memory = (format ≡ Json) × (new ≡ old)

@@ -1,4 +1,4 @@
-//! The report of a run that was recorded whole, as text or as JSON.
+//! The report of a run, as text or as JSON. Its lists may be open, and pending calls known.
 //!
 //! What it promises, as contracts that are proved, by definitions of `specs/`:
 //!

@@ -90,7 +90,7 @@ one_behind : (last : Option Stands) (y : Stands) (ys : List Stands) → IfSome l
 one_behind None y ys at = tt
 one_behind (Some stands) y ys at = (suc at.0, at.1)
 
--- the last of a beginning stands in the whole
+-- the last of a prefix is in the whole
 pub last_among : (xs ys : List Stands) → IsPrefix xs ys → IfSome (last_published xs) (λ stands. (place : ℕ) × (slice_get ys place ≡ Some stands))
 last_among [] ys p = tt
 last_among (x ∷ []) ys p = (0, prefix_get (x ∷ []) ys 0 x p refl)

@@ -1,4 +1,4 @@
--- What contracts see of a watch, and of what it is told.
+-- What contracts see of a watch, and of what it learns.
 use Rattle.mpicall.specs.Names.{Rank, Place}
 use Rattle.std.specs.Prelude.{◌≡◌, ℕ, ◌<◌, ◌≤◌, List, Option, Some, None, IfSome, slice_get}
 use Rattle.watches.specs.Publications.{last_published}
@@ -7,7 +7,7 @@ use Rattle.watches.specs.declared.stands.Stands.{Stands}
 use Rattle.watches.specs.declared.watch.Watch.{Watch}
 use Rattle.watches.specs.declared.watch.Told.{Told}
 
--- the publications that the watch has seen or was told of
+-- the publications that the watch has seen or learned of
 abbrev pub seen_by : Watch → List Stands
 seen_by watch = list_known watch.known
 
@@ -19,7 +19,7 @@ list_watched watch = book_of watch.known
 abbrev pub ranks_watched : Watch → ℕ
 ranks_watched watch = watch.ranks
 
--- the publications that are told of
+-- the publications that a watch can learn of by it
 abbrev pub publications_told : Told → List Stands
 publications_told told = list_known told.publication
 

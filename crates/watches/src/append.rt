@@ -75,7 +75,7 @@ impl Pen {
 }
 
 impl Known {
-    /// The same once more.
+    /// A copy: it says as much of how the list begins.
     pub(crate) fn again(&self) -> Known
         ensures { result ≡ self.now }
     {
@@ -91,12 +91,14 @@ impl Known {
     {}
 }
 
+// By hand: a derived drop is proved again at each exit of a function that owns one.
 impl Drop for Pen {
     fn drop(self) {
         let Self { marker: _ } = self;
     }
 }
 
+// By hand: a derived drop is proved again at each exit of a function that owns one.
 impl Drop for Known {
     fn drop(self) {
         let Self { marker: _ } = self;

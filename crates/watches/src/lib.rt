@@ -6,7 +6,7 @@
 //! - `publisher::Publisher` has the stands that were published so far. `publish` adds those that it is given if they
 //!   are further, shows them to all watches and answers them; it may wait for a watch that is being read. It alone
 //!   adds to them: `published_all_seen` says that each watch answers by one of them.
-//! - `watch::Watch` answers a rank's stand in the last publication that it saw or was told of. It may not wait, and its
+//! - `watch::Watch` answers a rank's stand in the last publication that it saw or learned of. It may not wait, and its
 //!   answers for a rank never fall.
 //!
 //! Sessions of the crate `gather` publish by it. The definitions are in `specs/`: `Stands` says what a state

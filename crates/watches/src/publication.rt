@@ -44,7 +44,7 @@ impl Publication {
         }
     }
 
-    /// The same once more.
+    /// A copy of the publication.
     pub(crate) fn again(&self) -> Publication
         ensures { result ≡ self.now }
     {

@@ -1,7 +1,7 @@
 //! A watch: it says how far each rank has come, and never waits.
 //!
-//! A watch answers by the last publication that it has seen or was told of. What it knows only grows, so its answers
-//! for a rank never fall, and none is below what it was told. A thread that shows where each rank stands while a
+//! A watch answers by the last publication that it has seen or learned of. What it knows only grows, so its answers
+//! for a rank never fall, and none is below what it learned. A thread that shows where each rank stands while a
 //! session runs, another thread steps and publishes:
 //!
 //! ```text
@@ -17,7 +17,7 @@
 //!     thread::yield_now();
 //! }
 //!
-//! // Whoever hands it what was told makes sure that it shows no less from then on.
+//! // Whoever hands it what `publish` answered makes sure that it shows no less from then on.
 //! watch.learn(&told);
 //! ```
 
@@ -164,7 +164,7 @@ impl Watch {
         &self.known
     }
 
-    /// Learns what was told. From then on no answer is below it.
+    /// Learns what `publish` answered. From then on no answer is below it.
     #[tactic(auto, using(crate::proofs::RisingLemmas::never_falls))]
     pub fn learn(&mut self, told: &Told)
         requires { list_told told.now ≡ list_watched self.old }

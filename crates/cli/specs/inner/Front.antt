@@ -14,7 +14,7 @@ deciding_bytes = DECIDING_BYTES
 abbrev pub IsFrontOf : Option (List ℕ) → List ℕ → Type 0
 IsFrontOf known front = IfSome known (λ bytes. front ≡ take deciding_bytes bytes)
 
--- a read failed behind some of the bytes, which the input's count shows, or memory ran out and no read failed
+-- a read failed after some of the bytes, which the input's count shows, or memory ran out and no read failed
 module _ {I : Type 0} (left : I → Option (List ℕ)) (failures : I → ℕ) (old new : I) where
   abbrev pub IsFrontFault : Fault → Type 0
   IsFrontFault ReadHead = ((came : List ℕ) × Consumes (left old) (left new) came) × (failures new ≡ one_more (failures old))

@@ -298,7 +298,7 @@ TakesSteps line steps result old new =
     (handed : Handed) (progress : Progress) → Stands handed progress old.list → IsKept progress.records old
     → AllFit progress line steps → PutsSteps line steps result handed progress new
 
--- a call is pending behind them
+-- a call is pending after them
 pub record IsPendingAfter (line : ℕ) (steps : List Step) (pending : PendingCall) (handed : Handed) (progress : Progress) (walk : Walk) : Type 0 where
   pub stands : Stands handed (after_steps progress line steps) walk.list
   pub sinks : walk.sinks.all.items ≡ sinks_from 0 (after_steps progress line steps).records

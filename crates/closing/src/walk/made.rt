@@ -81,7 +81,7 @@ fn made_under(run: &Communicators, parent: u32, rank: u16, new: New) -> Call
     }
 }
 
-/// The same, by the communicator that the call is on.
+/// What any other call is by which the rank got a communicator, by the communicator that the call is on.
 fn made_otherwise(run: &Communicators, at: &At<'_>, rank: u16, new: New) -> Call
     ensures { (journals : Run) (placed : Placed) (key : Key) → MeetsMaker journals placed run.now rank at.now → is_some at.now.named ≡ true →
         HasKey run.now.keys new.key key → IsSmall journals key →

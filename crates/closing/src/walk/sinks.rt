@@ -72,7 +72,8 @@ enum Fate {
 }
 
 impl<'a> At<'a> {
-    /// The same, part by part: where a call that is seldom gets it, the other ways need no place in memory for it.
+    /// A copy, part by part: where a call that is seldom gets it, the other ways need no place in memory for it, if the
+    /// step is inlined; the kit's build doesn't inline it.
     #[inline(always)]
     fn copy(&self) -> At<'a>
         ensures { result ≡ self.now }
@@ -136,7 +137,7 @@ fn wants_of(at: &At<'_>, awaited: &Awaited, found: Option<Message>) -> Option<Wa
     })
 }
 
-/// The same of an exchange, whose send can be too.
+/// What the receive of an exchange wants, where its send can be too.
 fn wants_of_exchange(
     at: &At<'_>,
     sent: &Sent,
@@ -263,7 +264,8 @@ impl Walk {
         }
     }
 
-    /// The same, where receives may be sinks. Most calls are plain, and need no place in memory.
+    /// Does what `takes_sink` does, where receives may be sinks. Most calls are plain: these would need no place in
+    /// memory if the step were inlined, which the kit's build doesn't do.
     #[inline(always)]
     fn takes_sink_by(&mut self, lines: &Lines, at: &At<'_>, it: &Called<'_>) -> Result<bool, Stop>
         ensures same { self.new ≡ record self.old { list = self.new.list; sinks = self.new.sinks; pending = self.new.pending; left_out = self.new.left_out } }

@@ -20,7 +20,7 @@ IsOfFiles (fault.Read it) = ⊥
 IsOfFiles fault.Make = ⊥
 IsOfFiles it = ⊤
 
--- a text was put behind a page: what of both isn't written is on the page
+-- a text was put after a page: what of both isn't written is on the page
 pub record IsPut (old new : Option (List ℕ)) (page next text : List ℕ) : Type 0 where
   pub written : List ℕ
   pub appends : Appends old new written

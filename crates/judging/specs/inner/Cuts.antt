@@ -48,7 +48,7 @@ is_at None place = false
 abbrev pub entry_said : EntryCode → EntryAt
 entry_said it = record { rank = it.rank; line = it.line }
 
--- the fault is that something is under way at the cut, or want of memory
+-- the fault is that something is under way at the cut, or that memory ran out
 abbrev pub IsOfCut : RecordingView → List (List ℕ) → Analysed → JudgeFault → Type 0
 IsOfCut it rows analysed (Unclean entry) = IsGatheredIfCut it rows analysed → unclean_at it.run it.choice ≡ Some (entry_said entry)
 IsOfCut it rows analysed Memory = ⊤

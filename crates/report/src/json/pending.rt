@@ -85,7 +85,7 @@ fn opened_value(alloc: Global, opened: &Opened<'_>, awaits: &[Awaited]) -> Resul
     json!(in alloc; {"at": stand, "call": call, "needs": needs, "rank": opened.rank})
 }
 
-/// The same by the run.
+/// A rank at its open, by what the run has of its pending call and of what it waits for.
 fn at_open_value(alloc: Global, run: &PendingRun<'_>, rank: u16) -> Result<Value, AllocError>
     ensures { IfOk result (λ value. view value ≡ at_open_data run.now.analyser.now.reading run.now.analyser.now.groups run.now.analyser.now.recording (pending_of (map view_of run.now.pending.now) rank) run.now.graph.now.at_open rank) }
 {

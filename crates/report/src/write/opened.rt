@@ -53,7 +53,7 @@ fn push_number_or_any(page: &mut Page, number: Option<u32>)
     }
 }
 
-/// The rank of the group from which the message comes, if it is told.
+/// The rank of the group from which the message comes, if that is known.
 fn source_of(wanted: &Wanted) -> Option<u32>
     ensures { result ≡ wanted.now.source }
 {

@@ -1,4 +1,4 @@
--- A publication beside the pen of its list.
+-- A publication, with the pen of its list.
 use Rattle.std.specs.Prelude.{◌≡◌}
 use Rattle.watches.specs.Published.{list_known, book_of}
 use Rattle.watches.specs.declared.append.Pen.{Pen}

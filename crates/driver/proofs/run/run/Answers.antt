@@ -1,4 +1,4 @@
--- The same clauses.
+-- The clauses of `run_by`.
 use Rattle.driver.proofs.run.run.Goals as goal
 
 pub returns-clause-accepted : goal.returns-clause-accepted

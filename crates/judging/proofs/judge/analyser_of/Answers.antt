@@ -1,4 +1,4 @@
--- All of the lists, or want of memory.
+-- All of the lists, or lack of memory.
 use Rattle.std.proofs.Common.{◌≡◌, ◌∙◌, sym}
 use Rattle.std.proofs.lemmas.Bool.{false≢true}
 use Rattle.lawful.specs.Laws.{IsRead}
