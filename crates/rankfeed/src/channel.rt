@@ -87,7 +87,7 @@ pub struct Receipt {
 }
 
 impl Feed {
-    ghost use Rattle.std.specs.Prelude.{◌↔◌, [], ◌∷◌, ◌++◌, ℕ, IsTrue, IsErr, IfOk, IfErr, OnOk, Ok, Err, MatchResult};
+    ghost use Rattle.std.specs.Prelude.{◌↔◌, [], ◌∷◌, ◌++◌, IsTrue, IfOk, IfErr, OnOk, Ok, Err};
     ghost use Rattle.mpicall.specs.declared.fault.Ending.TheVariants.{Sealed, Torn};
     ghost use Rattle.rankfeed.specs.declared.item.Item.TheVariants.{Entry, Mark};
     ghost use Rattle.rankfeed.specs.declared.channel.PutFault.TheVariants.{Full, Closed, Lost};
@@ -249,7 +249,7 @@ impl Feed {
 }
 
 impl Taker {
-    ghost use Rattle.std.specs.Prelude.{[], ◌∷◌, ◌++◌, ℕ, IfSome};
+    ghost use Rattle.std.specs.Prelude.{[], ◌∷◌, ◌++◌, IfSome};
     ghost use Rattle.rankfeed.specs.declared.answer.Took.TheVariants as Took;
     ghost use Rattle.rankfeed.specs.Items.{IsFeed};
     ghost use Rattle.rankfeed.specs.Answers.{Receives};

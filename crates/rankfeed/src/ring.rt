@@ -65,7 +65,7 @@ pub struct Receipt {
 }
 
 impl Feed {
-    ghost use Rattle.std.specs.Prelude.{◌↔◌, [], ◌∷◌, ◌++◌, ℕ, not, IsTrue, IsErr, IfOk, IfErr, OnOk, Ok, Err, MatchResult};
+    ghost use Rattle.std.specs.Prelude.{◌↔◌, [], ◌∷◌, ◌++◌, not, IsTrue, IsErr, IfOk, IfErr, OnOk, Ok, Err};
     ghost use Rattle.mpicall.specs.declared.fault.Ending.TheVariants.{Sealed, Torn};
     ghost use Rattle.rankfeed.specs.declared.item.Item.TheVariants.{Entry, Mark};
     ghost use Rattle.rankfeed.specs.declared.answer.PutFault.TheVariants.{Full, Closed};
@@ -241,7 +241,7 @@ impl Feed {
 }
 
 impl Taker {
-    ghost use Rattle.std.specs.Prelude.{◌↔◌, [], ◌∷◌, ◌++◌, ℕ, IsTrue, IsSome, Some, IfOk};
+    ghost use Rattle.std.specs.Prelude.{◌↔◌, [], ◌∷◌, ◌++◌, IsTrue, IsSome, Some, IfOk};
     ghost use Rattle.rankfeed.specs.declared.answer.Took.TheVariants as Took;
     ghost use Rattle.rankfeed.specs.declared.answer.Came.TheVariants as Came;
     ghost use Rattle.rankfeed.specs.Items.{IsFeed};

@@ -80,9 +80,8 @@ fn watch_all(board: &mut Board, watches: u16, ranks: u16, all: Vec<Watch>) -> Op
 
 impl Publisher {
     ghost use mathlib.Core.List.{IsPrefix};
-    ghost use Rattle.std.specs.Prelude.{◌≢◌, Err, OnOk, OnErr, is_some, false};
+    ghost use Rattle.std.specs.Prelude.{◌≢◌, Err, OnOk, OnErr, false};
     ghost use Rattle.watches.specs.declared.publisher.OpenFault.TheVariants.{Watch as WatchFault};
-    ghost use Rattle.watches.specs.declared.stands.Stands.{Stands as StandsValue};
     ghost use Rattle.watches.specs.Publications.{at_start, AreRising, Publishes, IsNoFurther};
     ghost use Rattle.watches.specs.Publishers.{published_by, book_published, is_watched, IsShown};
     ghost use Rattle.watches.specs.Watches.{publications_told, list_told, seen_by, list_watched, AnswersBy};

@@ -1,11 +1,10 @@
 //! Held ranks at their opens as JSON.
 
-ghost use Rattle.std.specs.Prelude.{◌≡◌, ◌||◌, ◌∷◌, ◌++◌, nat_lt, flat_map, length, map, IfOk, OnOk, string_bytes};
+ghost use Rattle.std.specs.Prelude.{◌≡◌, ◌||◌, ◌∷◌, ◌++◌, flat_map, length, map, IfOk, OnOk, string_bytes};
 ghost use Rattle.std.specs.List.{filter, join_with_byte, range_with_len};
 ghost use Rattle.mpicall.specs.Spelling.{space};
 ghost use Rattle.serde_json.specs.View.{view};
 ghost use Rattle.waitgraph.specs.Pending.{view_of};
-ghost use Rattle.waitgraph.specs.PendingNeeds.{awaited_in};
 ghost use Rattle.report.specs.JsonReport.{each};
 ghost use Rattle.report.specs.PendingReport.{item_text, pending_fields, pending_of, awaited_data, at_open_data, has_lines, data_of_rank};
 ghost use Rattle.report.specs.inner.ArrayTexts.{elements_text};

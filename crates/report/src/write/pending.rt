@@ -1,13 +1,10 @@
 //! The report where it is known in which calls ranks were, as text.
 
-ghost use Rattle.std.specs.Prelude.{◌≡◌, ◌≤◌, ◌++◌, All, flat_map, length, map};
+ghost use Rattle.std.specs.Prelude.{◌≤◌, All, flat_map, length, map};
 ghost use Rattle.std.specs.List.{range_with_len};
 ghost use Rattle.waitgraph.specs.Pending.{view_of};
-ghost use Rattle.waitgraph.specs.PendingNeeds.{awaited_in};
-ghost use Rattle.waitgraph.specs.Stuck.{unmet_of};
 ghost use Rattle.waitgraph.specs.Verdicts.{verdict_by};
 ghost use Rattle.report.specs.PendingReport.{pending_of, awaited_line, lines_of_rank, pending_text};
-ghost use Rattle.report.specs.TextReport.{rank_lines};
 ghost use Rattle.report.specs.inner.Opened.{TellsOf};
 ghost use Rattle.report.specs.inner.Printing.{PrintsAll, Prints};
 

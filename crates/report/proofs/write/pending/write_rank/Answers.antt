@@ -3,7 +3,7 @@ use Rattle.moves.specs.declared.need.Need.{Need}
 use Rattle.waitgraph.specs.Pending.{view_of}
 use Rattle.waitgraph.specs.PendingNeeds.{awaited_in}
 use Rattle.waitgraph.specs.declared.awaited.Awaited.{Awaited}
-use Rattle.report.specs.PendingReport.{pending_of, awaited_line, lines_of_rank}
+use Rattle.report.specs.PendingReport.{pending_of, awaited_line}
 use Rattle.report.specs.TextReport.{unmet_line, rank_lines}
 use Rattle.report.specs.inner.Printing.{Prints}
 use Rattle.report.proofs.PrintingLemmas.{prints_more}

@@ -1,4 +1,4 @@
-use Rattle.std.proofs.Common.{◌≡◌, ℕ, List, length, flat_map, map, sym, subst, ap, arith}
+use Rattle.std.proofs.Common.{◌≡◌, ℕ, List, length, flat_map, map, sym, subst, arith}
 use Rattle.std.specs.List.{range_with_len}
 use Rattle.findings.proofs.FindingLemmas.{listed_next}
 use Rattle.waitgraph.specs.Pending.{view_of}
