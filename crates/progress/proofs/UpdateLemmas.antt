@@ -1,10 +1,10 @@
 -- What one write leaves, and what an update shows by it.
-use Rattle.std.proofs.Common.{append-nil, ◌≡◌, ℕ, ◌++◌, Bool, Option, Some, None, Result, Ok, Err, List, [], take, inr, subst, sym, ◌∙◌}
+use Rattle.std.proofs.Common.{append-nil, ◌≡◌, ℕ, Bool, Option, Some, None, Result, Ok, Err, List, inr, subst, sym, ◌∙◌}
 use Rattle.std.specs.Io.KnownBytes.{Keeps, WriteAppends}
 use Rattle.mpicall.specs.Device.{AppendsBeginning}
 use Rattle.watches.specs.declared.stands.Stands.{Stands}
 use Rattle.progress.specs.Lines.{IsPositionOf, framed, words_of}
-use Rattle.progress.specs.Updates.{ShowsLast, ShowsStands}
+use Rattle.progress.specs.Updates.{ShowsLast}
 use Rattle.progress.specs.declared.line.Position.{Position}
 
 keeps : (old new : Option (List ℕ)) (text : List ℕ) → Keeps old new → AppendsBeginning old new text

@@ -1,8 +1,7 @@
 -- What an update shows: stands that were published, and none lower than before.
-use Rattle.std.specs.Prelude.{◌≡◌, ◌⊎◌, ℕ, Bool, Option, Some, None, List, ⊤}
+use Rattle.std.specs.Prelude.{◌≡◌, ◌⊎◌, ℕ, Bool, Option, Some, None, List}
 use Rattle.mpicall.specs.Device.{AppendsBeginning}
 use Rattle.watches.specs.declared.stands.Stands.{Stands}
-use Rattle.watches.specs.Publications.{last_published}
 use Rattle.watches.specs.Watches.{seen_by, list_watched}
 use Rattle.progress.specs.Lines.{IsPositionOf, framed, words_of}
 use Rattle.progress.specs.declared.line.Position.{Position}
