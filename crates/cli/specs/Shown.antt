@@ -1,5 +1,5 @@
 -- Where, and how, it is shown how far a check is.
-use Rattle.std.specs.Prelude.{◌≡◌, ℕ, ◌*◌, Bool, true, if◌then◌else◌, Option, IfSome, is_some}
+use Rattle.std.specs.Prelude.{◌≡◌, ℕ, ◌*◌, Bool, true, if◌then◌else◌}
 use Rattle.std.specs.Duration.{as_nanos}
 use Rattle.progress.specs.declared.viewer.Manner.{Manner}
 

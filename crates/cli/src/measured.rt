@@ -1,6 +1,6 @@
 //! Files of which it is counted how much was read.
 
-ghost use Rattle.std.specs.Prelude.{◌≡◌, option_map};
+ghost use Rattle.std.specs.Prelude.{option_map};
 ghost use Rattle.cli.specs.inner.Openings.{input_within};
 
 use crate::opener::Opener;
