@@ -3,11 +3,11 @@
 //! A field is a number or one of three names. What a name or a number means follows from the form of the
 //! field, so a field doesn't keep it.
 
-ghost use Rattle.std.specs.Prelude.{◌≡◌, ◌≤◌, option_map, option_and_then, codes};
+ghost use Rattle.std.specs.Prelude.{◌≡◌, ◌≤◌, option_map, codes};
 ghost use Rattle.mpicall.specs.Number.{negative, signed_of, number_up_to};
 ghost use Rattle.journals.specs.inner.Fields.{number_field};
 ghost use Rattle.journals.specs.inner.Texts.{IsNumber};
-ghost use Rattle.journals.specs.Fields.{natural_of, positive_of, signed_field, peer_field, or_any, or_named, field_of};
+ghost use Rattle.journals.specs.Fields.{positive_of, signed_field, peer_field, or_any, or_named, field_of};
 
 use crate::form::Form;
 use crate::limits::GREATEST;

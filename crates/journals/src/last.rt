@@ -3,7 +3,7 @@
 //! Most reports are of the call line before them, and each kind at most once of a call: four marks say which
 //! came.
 
-ghost use Rattle.std.specs.Prelude.{◌≡◌, ◌≤◌, length};
+ghost use Rattle.std.specs.Prelude.{◌≡◌};
 ghost use Rattle.journals.specs.Faults.{takes_message, may_choose, completes_requests, makes_comm, is_undefined, may_bring_comm, may_fail, may_be_anywhere};
 ghost use Rattle.journals.specs.inner.Last.{new_last, last_may_have, with_report, completes_all};
 

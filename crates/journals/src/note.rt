@@ -3,7 +3,7 @@
 //! A note has places of lines in it, not lists: the call that completed it, and the last that named it. So a
 //! number that a line names twice is found without a search, and a failed call can be taken back.
 
-ghost use Rattle.std.specs.Prelude.{◌≡◌, not, ◌||◌, ◌&&◌};
+ghost use Rattle.std.specs.Prelude.{◌≡◌, ◌||◌, ◌&&◌};
 ghost use Rattle.journals.specs.Known.{has_wildcard, receive_in, is_wildcard, duplicated_in};
 ghost use Rattle.journals.specs.inner.Notes.{request_note, message_note, called_note, is_callable, reported_note, is_now, undone_note};
 ghost use Rattle.journals.specs.declared.word.Word.TheVariants.{Call};

@@ -3,7 +3,7 @@
 //! Most programs number them one after another, so a list has their notes in that order. A number that is far
 //! beyond those before it has its note in a map.
 
-ghost use Rattle.std.specs.Prelude.{◌≡◌, ◌==◌, ◌≤◌, ◌<◌, ◌+◌, ℕ, None, Some, true, IfOk, MatchBool, OnOk, if◌then◌else◌, length, option_map};
+ghost use Rattle.std.specs.Prelude.{◌≡◌, ◌==◌, ◌<◌, ℕ, None, Some, true, IfOk, MatchBool, OnOk, if◌then◌else◌, option_map};
 ghost use Rattle.std.specs.Prelude.{nat_eq};
 ghost use Rattle.std.specs.HashMap.{get};
 ghost use Rattle.journals.specs.inner.Notes.{note_at, may_call, by_call, called_note};

@@ -3,9 +3,6 @@
 //! A recorder may make its file longer than what it has written, so what is not written yet is zero.
 
 ghost use Rattle.std.specs.Prelude.{◌≡◌};
-ghost use Rattle.std.specs.Io.{ReadsAtMost};
-ghost use Rattle.std.specs.Io.KnownBytes.{ReadConsumes};
-ghost use Rattle.mpicall.specs.Device.{CountsFailure};
 
 use memchr::memchr;
 use mpicall::device::{DeviceFault, Input};
