@@ -159,7 +159,7 @@ COUNTING = """\
 #include "journal.h"
 #include <stdio.h>
 
-bool in_doubt;
+bool in_doubt, in_counted;
 static char text[1 << 14];
 int create_text(const char *folder, const char *name, int rank) { return (void)folder, (void)name, rank; }
 char *map_text(int file, long start, unsigned long size) { return file + start + size ? text : NULL; }

@@ -66,12 +66,14 @@ static void goes_within(char *line) {
     counts_came_back();
     __atomic_store_n(line, WITHIN, __ATOMIC_RELEASE);
     counts.within = line;
+    in_counted = true;
 }
 
 void counts_came_back(void) {
     if (counts.within)
         __atomic_store_n(counts.within, WAITS, __ATOMIC_RELEASE);
     counts.within = NULL;
+    in_counted = false;
 }
 
 void left_out(Meaning meaning, const char *what) {

@@ -19,7 +19,7 @@ enum {
     MOST_CALLS = 1000001 /* one more than a trace may have, since a trace has no MPI_Init */
 };
 
-bool recording, journal_is_full, in_doubt;
+bool recording, journal_is_full, in_doubt, in_counted;
 int journal_site;
 
 /* What the header of each window's journal has, and the folder of the run. */
@@ -240,7 +240,8 @@ void journal_came_back(void) {
     if (call.lines > 0)
         set_state('o');
     call.lines = 0;
-    counts_came_back();
+    if (in_counted)
+        counts_came_back();
 }
 
 void journal_take_back(void) {

@@ -65,6 +65,9 @@ extern bool journal_is_full;
  * failed or isn't recorded, or what became of a request. */
 extern bool in_doubt;
 
+/* Whether the rank is in a call that is only counted. */
+extern bool in_counted;
+
 /* Why the journal can't be begun, or NULL. Windows are numbered from 1; without windows the number is 0. */
 const char *journal_open(const char *folder, const char *id, int rank, int ranks, const char *library,
                          int window);
