@@ -44,8 +44,8 @@ def words_of(argv):
     add("--mpi", choices=("mpich", "openmpi"), help="the MPI library, if the command doesn't show it")
     add("--strict", action="store_true", help="pass standard sends on as synchronous ones")
     add("--eager", metavar="N", type=int, help="sends of at most N bytes are buffered")
-    add("--window", metavar="N", type=int, help=f"judge parts of N lines meanwhile ({LINES}; 0: none)")
-    add("--keep", action="store_true", help="keep parts that are free too")
+    add("--window", metavar="N", type=int, help=f"judge windows of N lines meanwhile ({LINES}; 0: none)")
+    add("--keep", action="store_true", help="keep windows that are free too")
     for name, (*_, text) in OUTPUTS.items():
         add(f"--{name}", metavar="FILE", type=Path, help=f"write {text} to FILE")
     add("command", nargs="...", metavar="COMMAND", help="what runs the program")
