@@ -96,12 +96,12 @@ Examples:
   mpiwait lint run/r0                   reads one trace alone
 
 Exit status:
-  0  no hang; or the trace is in its format; or help or the version was asked for
+  0  no hang; a trace is in its format; a recording was written; help or the version was asked for
   1  hang
-  2  refused: the head or a trace isn't in its format, or a call can't be as recorded
+  2  refused: a file isn't in its format, or a call can't be as recorded
   3  usage: the words, or the number of files
   4  fault: a file, the memory or the output
-  5  unfinished: no rank is known to hang, but some trace ends with `open`";
+  5  unfinished: the run was cut off, and no rank is known to hang";
 
 /// How the program is called, as its help shows it.
 const PROGRAM_USAGE: &str = "\

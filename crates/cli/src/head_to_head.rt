@@ -40,12 +40,21 @@ pub fn two_that_send_first<R: Threads + Wait + Clock + Sync>(
             text: b"send 0 0 0\nrecv 0 0 0\nfinalize\n",
         },
     ];
-    let shelf = MemoryFiles { files: &files };
+    let opener = MemoryFiles { files: &files };
     let words = ["check", "head", "r0", "r1"];
     let mut screen = Screen {
         out: MemoryOutput::new(alloc),
         is_terminal: false,
     };
     let mut maker = MemoryMaker::new();
-    program(alloc, &words, &shelf, &mut maker, rt, out, err, &mut screen)
+    program(
+        alloc,
+        &words,
+        &opener,
+        &mut maker,
+        rt,
+        out,
+        err,
+        &mut screen,
+    )
 }

@@ -34,10 +34,10 @@ pub fn program_in_memory<R: Threads + Wait + Clock + Sync>(
     ensures judge { result ≢ Status.Fault → JudgesJournals (text_on files.now) (map (λ word. word.now) words.now) result (bytes_written out.old) (bytes_written out.new) (bytes_written err.old) (bytes_written err.new) }
     ensures close { result ≢ Status.Fault → ClosesJournals (text_on files.now) (text_at maker.new.kept) (map (λ word. word.now) words.now) result (bytes_written out.old) (bytes_written out.new) (bytes_written err.old) (bytes_written err.new) }
 {
-    let shelf = MemoryFiles { files };
+    let opener = MemoryFiles { files };
     let mut screen = Screen {
         out: MemoryOutput::new(alloc),
         is_terminal: false,
     };
-    program(alloc, words, &shelf, maker, rt, out, err, &mut screen)
+    program(alloc, words, &opener, maker, rt, out, err, &mut screen)
 }

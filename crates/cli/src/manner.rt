@@ -39,7 +39,7 @@ fn calls_argument<'a>(alloc: Global) -> Arg<'a>
         .value_name("HOW")
         .default_value("strict")
         .help(
-            "Judges whether the run can hang (strict), or what held its ranks when it was cut off (went)",
+            "The question: whether the run can hang (strict), or what held its ranks when it was cut off (went)",
         )
 }
 

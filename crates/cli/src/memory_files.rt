@@ -40,11 +40,11 @@ impl<'a> MemoryFiles<'a> {
 impl<'a> Opener for MemoryFiles<'a> {
     type In = MemoryInput<'a>;
 
-    ghost told = { λ shelf path. text_on shelf.files.now path };
+    ghost told = { λ opener path. text_on opener.files.now path };
 
-    ghost named = { λ shelf path. Some (is_some (text_on shelf.files.now path)) };
+    ghost named = { λ opener path. Some (is_some (text_on opener.files.now path)) };
 
-    ghost may_give = { λ shelf path answer. option_map bytes_left answer ≡ text_on shelf.files.now path };
+    ghost may_give = { λ opener path answer. option_map bytes_left answer ≡ text_on opener.files.now path };
 
     fn open_input(&self, path: &str) -> Option<MemoryInput<'a>> {
         match self.text(path) {

@@ -114,7 +114,7 @@ fn answer_of_program<R: AllocGlobal + Eprint + Threads + Wait + Clock + Sync>(
     let mut err = FailsAt::new(MemoryOutput::new(rt.alloc()), devices.failing_error);
     let given = (Arguments(row.words.as_slice()), rt.alloc());
     let (meeting, made) = (Meeting::new(), Made::new());
-    let shelf = RowFiles {
+    let opener = RowFiles {
         row,
         meeting: &meeting,
         clock: rt,
@@ -126,7 +126,7 @@ fn answer_of_program<R: AllocGlobal + Eprint + Threads + Wait + Clock + Sync>(
     };
     let ended = run(
         &given,
-        &shelf,
+        &opener,
         &mut maker,
         rt,
         &mut out,

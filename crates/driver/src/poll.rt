@@ -16,7 +16,7 @@ use std::sync::Wait;
 /// How many items are taken from one feed before those of the other ranks are looked at again.
 const MOST: u16 = 1024;
 
-/// What a sweep over the feeds found.
+/// What a poll of the feeds found.
 #[derive(Clone, Copy, Debug, PartialEq, Eq)]
 struct PollResult {
     all_ended: bool,
@@ -58,8 +58,8 @@ fn poll(collector: &mut Collector) -> PollResult
     polled
 }
 
-/// Takes what comes by the feeds of all ranks until each has ended. The tracker is handed the analyser after each
-/// sweep.
+/// Takes what comes by the feeds of all ranks until each has ended. After each poll of all the tracker is handed the
+/// analyser.
 pub(crate) fn take_all(collector: &mut Collector, tracker: &impl Tracker, wait: &impl Wait)
     ensures { IsSameSession collector.old collector.new }
 {

@@ -1,5 +1,13 @@
 //! From journals to a verdict: the report of the recording that the journals of a run are, and that recording
 //! as files.
+//!
+//! What it promises, as contracts that are proved, by definitions of `specs/`:
+//!
+//! - `judge::judge` writes the report of the recording that the journals' texts stand for, by what is known of pending
+//!   calls and sinks, and answers its verdict; or the first fault of the journals, or of a cut that isn't clean
+//!   (`Judging`).
+//! - `close::close` writes that recording as a head and a trace for each rank (`Closing`).
+//! - `read::read_journals` answers the lines of all journals, or the first fault of the lowest rank.
 #![tactic(auto)]
 
 pub mod close;

@@ -112,13 +112,15 @@ pub fn each_plain_journal_stays_the_same()
     ensures { EachPlainJournalStaysTheSame }
 {}
 
-/// Where the journal of plain calls goes on, the list begins with the records so far.
+/// Where the journal of plain calls goes on, the list begins with the records so far, if calls are taken strictly,
+/// communicators keep their numbers, and no request is cancelled or moved.
 pub fn what_is_so_far_stays()
     ensures { WhatIsSoFarStays }
 {}
 
 /// Where journals go on, with calls of any kind, each list begins with the records so far. So it does, but for the numbers
-/// of lines, where messages of requests are reported among the lines so far too.
+/// of lines, where messages of requests are reported among the lines so far too. Communicators keep their numbers, and
+/// of what came so far it isn't reported later that it failed, was cancelled or is moved.
 pub fn what_is_told_stays()
     ensures behind { WhatIsToldStays }
     ensures between { WhatIsToldBetweenStays }

@@ -94,7 +94,7 @@ module _ (reading : Reading) (groups : Groups) (recording : Lists) (closed : IsC
           ap (λ (place : ℕ). option_map_or leaves_open (slice_get (calls_of recording rank) place) false) last ∙ ap (λ (o : Option Call). option_map_or leaves_open o false) is ∙ at
 
   -- who stands at the end of a list that was left open stands at its open
-  opened_at_open : (rank : ℕ) → is_at_end recording (stands_of reading groups recording) rank ≡ true → is_left_open recording rank ≡ true → is_at_open recording (stands_of reading groups recording) rank ≡ true
+  pub opened_at_open : (rank : ℕ) → is_at_end recording (stands_of reading groups recording) rank ≡ true → is_left_open recording rank ≡ true → is_at_open recording (stands_of reading groups recording) rank ≡ true
   opened_at_open rank at_end opens = by_call (slice_get (calls_of recording rank) (slice_index (stands_of reading groups recording) rank)) refl at_end
     where
       by_call : (o : Option Call) → slice_get (calls_of recording rank) (slice_index (stands_of reading groups recording) rank) ≡ o → option_map_or ends_list o false ≡ true → is_at_open recording (stands_of reading groups recording) rank ≡ true

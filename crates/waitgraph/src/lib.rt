@@ -14,9 +14,9 @@
 //! - `graph::Graph::of_pending` answers the same where it is known in which calls ranks were when their lists were left
 //!   open, and which receives a message may have met (`Pending`): the held ranks, which are the greatest set in which
 //!   no rank may move on while all of them stay (`PendingHeld`), what those at their opens wait for (`PendingNeeds`),
-//!   the causes (`PendingCauses`), the verdict (`PendingVerdicts`) and the findings (`PendingGraphs`). Each held rank
-//!   stands where it does, whether sinks are met or not and however pending calls come back (`PendingStays`). Where
-//!   nothing of the kind is known it is the graph of `of`.
+//!   the causes (`PendingCauses`), the verdict (`PendingVerdicts`) and the findings (`PendingGraphs`). Where the sinks fit
+//!   the calls, each held rank stands where it does, whether sinks are met or not and however pending calls come back
+//!   (`PendingStays`). Where nothing of the kind is known it is the graph of `of`.
 //! - Its findings are what else is wrong with the recording, as the crate `findings` defines them.
 //! - Laws, each on a function that does nothing: the unmet needs are those needs of the present call that
 //!   aren't met and no others; each stuck rank has one, no other rank has, and who is waited for at a place is

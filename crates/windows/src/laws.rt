@@ -1,4 +1,5 @@
-//! The laws that are proved.
+//! The laws that are proved: of recordings that may be cut, which are closed and lawful ones among others, and of cuts that
+//! are clean.
 
 ghost use Rattle.windows.specs.Chains.{AfterFreeWindowsTheRestDecides, StuckInTheFirstThatIsNotFree};
 ghost use Rattle.windows.specs.Laws.{AfterAFreeWindowTheSecondDecides, StuckInTheFirstIsHeldInTheWhole, AHangInTheFirstIsOne, WindowsAreRight, LawfulRecordingsAreRight, CleanIsEven};
