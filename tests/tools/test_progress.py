@@ -33,8 +33,10 @@ class Progress(Folders):
         os.mkfifo(self.folder / "r0")
         writer = threading.Thread(target=self.feed, args=(seconds,))
         writer.start()
-        done = subprocess.run([PROGRAM, "check", *words, "head", "r0"], cwd=self.folder, stdout=subprocess.PIPE,
-                              stdin=subprocess.DEVNULL, check=False, timeout=60, **how)  # fmt: skip
+        # With little room both threads would wait for each other often, which takes seconds on a busy machine.
+        words = [PROGRAM, "check", "--capacity", "1024", *words, "head", "r0"]
+        done = subprocess.run(words, cwd=self.folder, stdout=subprocess.PIPE, stdin=subprocess.DEVNULL,
+                              check=False, timeout=60, **how)  # fmt: skip
         writer.join()
         os.unlink(self.folder / "r0")
         return done
