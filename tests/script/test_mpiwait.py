@@ -162,6 +162,13 @@ class Script(unittest.TestCase):
             self.assertEqual(done.returncode, 4)
             self.assertIn(LINE + "mpiwait: ", done.stderr)
 
+    def test_variables_of_python_are_no_verdict(self):
+        self.play("verdict free\n")
+        (self.here / "enum.py").write_text("raise ImportError('of another Python')\n")
+        for more in ({"PYTHONPATH": str(self.here)}, {"PYTHONHOME": "/none"}):
+            with patch.dict(os.environ, more):
+                self.assertEqual(self.run_script("--unproved", "run"), (0, "verdict free\n", LINE))
+
     def test_an_interrupted_answer_is_no_verdict(self):
         kept = self.folder / "kept"
         kept.mkdir()

@@ -22,6 +22,8 @@ from companions.script import Stopped
 
 CHECKER = {"MPIWAIT": str(TOP / "tests/tools/judge")}
 HERE = " on a-host"
+# What a checker answers that needs no journals: a shell's words.
+SAYS_FREE = """printf '{"causes":[],"findings":[],"left":[],"lines":[],"ranks":[],"verdict":"free"}'"""
 
 
 class Words(Folders):
@@ -127,6 +129,28 @@ class Again(Folders):
         done = self.again(MPIWAIT="./none")
         self.assertEqual((done.returncode, done.stdout), (4, ""))
         self.assertIn("can't be run", done.stderr)
+
+    def checker(self, words):
+        """The variable that names a checker which is these words of a shell."""
+        self.write("checker", f"#!/bin/sh\n{words}\n")
+        os.chmod(self.folder / "checker", 0o755)
+        return {"MPIWAIT": str(self.folder / "checker")}
+
+    def by_bash(self, script, *words, **environment):
+        """Runs tools/run by its own first line, with what a script of bash has changed before."""
+        words = ["bash", "-c", script, "bash", TOOLS / "run", "--again", *words]
+        return subprocess.run(words, capture_output=True, text=True, cwd=self.folder, env=os.environ | environment)
+
+    def test_variables_of_python_are_for_the_program(self):
+        """Else a module of another Python fails the script before it can say so, with the status of a hang."""
+        self.run_of("finalize")
+        self.again()
+        self.write("enum.py", "raise ImportError('of another Python')\n")
+        free = self.checker(SAYS_FREE)
+        for more in ({"PYTHONPATH": str(self.folder)}, {"PYTHONSAFEPATH": "1"}, {"PYTHONHOME": "/none"}):
+            with self.subTest(more):
+                done = self.by_bash('"$@"', **free, **more)
+                self.assertEqual((done.returncode, done.stderr), (0, ""))
 
     def test_folders(self):
         self.assertEqual(self.command("run", "--again", env=os.environ | CHECKER).returncode, 3)
