@@ -152,6 +152,20 @@ class Again(Folders):
                 done = self.by_bash('"$@"', **free, **more)
                 self.assertEqual((done.returncode, done.stderr), (0, ""))
 
+    def test_a_standard_error_that_is_closed_or_full(self):
+        self.run_of(*BOTH)
+        self.again()
+        for script in ('"$@" 2>&-', '"$@" 2>/dev/full'):
+            for words, status in (([], 1), (["--json", "none/a.json"], 4)):
+                with self.subTest(script, words=words):
+                    done = self.by_bash(script, *words, **CHECKER)
+                    self.assertEqual((done.returncode, done.stdout[:12]), (status, "verdict hang"))
+
+    def test_help_that_cannot_be_written(self):
+        for script in ('"$1" --help >/dev/full', '"$1" --help | true; exit "${PIPESTATUS[0]}"'):
+            done = self.by_bash(script)
+            self.assertEqual((done.returncode, "Exception" in done.stderr), (4, False))
+
     def test_folders(self):
         self.assertEqual(self.command("run", "--again", env=os.environ | CHECKER).returncode, 3)
         (self.folder / "mpiwait-run/journal").mkdir(parents=True)
