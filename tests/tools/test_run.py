@@ -166,6 +166,12 @@ class Again(Folders):
             done = self.by_bash(script)
             self.assertEqual((done.returncode, "Exception" in done.stderr), (4, False))
 
+    def test_more_ranks_than_files_may_be_open(self):
+        self.run_of(*["finalize"] * 90)
+        self.again()
+        done = self.by_bash('ulimit -S -n 64; "$@"', **self.checker(SAYS_FREE))
+        self.assertEqual((done.returncode, done.stderr), (0, ""))
+
     def test_folders(self):
         self.assertEqual(self.command("run", "--again", env=os.environ | CHECKER).returncode, 3)
         (self.folder / "mpiwait-run/journal").mkdir(parents=True)

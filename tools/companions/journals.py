@@ -6,6 +6,7 @@ tools/record/journal.h has the forms of these texts. A line is looked up by its 
 import mmap
 import os
 import re
+import resource
 from collections import namedtuple
 from contextlib import suppress
 from pathlib import Path
@@ -184,6 +185,8 @@ class Journal:
 def journals_in(folder, run=None):
     """The journals of all ranks, by rank: as many as the first one that is there says."""
     ranks = [int(name[7:]) for name in os.listdir(folder) if re.fullmatch(r"journal\d{1,4}", name)]
+    most = resource.getrlimit(resource.RLIMIT_NOFILE)[1]
+    resource.setrlimit(resource.RLIMIT_NOFILE, (most, most))  # each has a file open
     journals = {rank: Journal(folder, rank, run) for rank in sorted(ranks)}
     count = next((one.header.ranks for one in journals.values() if one.header), 0)
     all_ranks = range(max([count - 1, *ranks]) + 1)
