@@ -5,6 +5,7 @@ import fcntl
 import io
 import json
 import os
+import select
 import shutil
 import signal
 import subprocess
@@ -140,6 +141,24 @@ class Again(Folders):
         """Runs tools/run by its own first line, with what a script of bash has changed before."""
         words = ["bash", "-c", script, "bash", TOOLS / "run", "--again", *words]
         return subprocess.run(words, capture_output=True, text=True, cwd=self.folder, env=os.environ | environment)
+
+    def test_a_checker_that_is_built_first_says_so_meanwhile(self):
+        """It waits here until its words were read."""
+        free = self.checker(f"echo 'half an hour' >&2; read -r _ <'{self.folder}/pipe'; {SAYS_FREE}")
+        os.mkfifo(self.folder / "pipe")
+        script = "from companions.runs import Judge; Judge().try_out()"
+        tried = subprocess.Popen([sys.executable, "-c", script], cwd=TOOLS, env=os.environ | free, stderr=subprocess.PIPE)
+        self.addCleanup(tried.stderr.close)
+        said = select.select([tried.stderr], [], [], 5)[0]
+        (self.folder / "pipe").write_text("on\n")
+        self.assertEqual((tried.wait(), bool(said)), (0, True))
+
+    def test_a_checker_that_is_killed(self):
+        self.run_of(*BOTH)
+        for words, said in (("kill -KILL $$", "SIGKILL"), ("exit 7", "exit status 7")):
+            done = self.again(**self.checker(words))
+            self.assertEqual(done.returncode, 4)
+            self.assertIn(said, done.stdout)
 
     def test_variables_of_python_are_for_the_program(self):
         """Else a module of another Python fails the script before it can say so, with the status of a hang."""
