@@ -349,6 +349,12 @@ class Processes(unittest.TestCase):
             words = ["sh", "-c", f"kill -{int(number)} {os.getpid()}; sleep 60"]
             self.assertTrue(watching.run_command(words, None)[1])
 
+    def test_a_hangup_that_is_ignored(self):
+        """As nohup has it: it ends neither the script nor the command."""
+        self.addCleanup(signal.signal, signal.SIGHUP, signal.signal(signal.SIGHUP, signal.SIG_IGN))
+        words = ["sh", "-c", f"kill -HUP {os.getpid()} $$; sleep 0.5; exit 3"]
+        self.assertEqual(watching.run_command(words, None), (3, False))
+
     def test_a_terminal_that_interrupts(self):
         words = ["sh", "-c", f"kill -{int(signal.SIGINT)} {os.getpid()}; exit 130"]
         with mock.patch.object(watching, "is_in_front", lambda: True):
