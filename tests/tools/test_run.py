@@ -31,7 +31,7 @@ class Words(Folders):
     def test_wrong_ones(self):
         for words in ([], ["--again", "mpirun"], ["--again", "--for", "3"], ["--for", "0", "x"], ["--for", "-1", "x"],
                       ["--frames", "17", "x"], ["--mpi", "lam", "x"], ["--fast", "x"], ["--eager", "2147483648", "x"],
-                      ["--eager", "-1", "x"], ["--quiet", "no", "x"], ["--again", "--stop"], ["--for"]):  # fmt: skip
+                      ["--eager", "-1", "x"], ["--quiet", "no", "x"], ["--quiet", "nan", "x"], ["--for", "nan", "x"], ["--again", "--stop"], ["--for"]):  # fmt: skip
             with self.subTest(words), contextlib.redirect_stderr(io.StringIO()):
                 with self.assertRaises(Stopped) as stopped:
                     run.words_of(words)

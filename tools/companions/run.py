@@ -53,7 +53,7 @@ def words_of(argv):
     words.files = {name: getattr(words, name) for name in OUTPUTS if getattr(words, name)}
     words.unproved = words.unproved and not os.environ.get("MPIWAIT")
     words.command = words.command[words.command[:1] == ["--"] :]
-    if (1 if words.limit is None else words.limit) <= 0 or words.quiet <= 0:
+    if not (1 if words.limit is None else words.limit) > 0 or not words.quiet > 0:
         parser.error("--for and --quiet take a number of seconds above 0")
     if not 0 <= (words.eager or 0) <= MOST_BYTES:
         parser.error(f"--eager takes a number of bytes up to {MOST_BYTES}")
