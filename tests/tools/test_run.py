@@ -171,6 +171,17 @@ class Again(Folders):
                 done = self.by_bash('"$@"', **free, **more)
                 self.assertEqual((done.returncode, done.stderr), (0, ""))
 
+    def test_an_interrupt_while_python_starts(self):
+        """Python imports modules of the machine first, and ends with the status of a hang if it is interrupted there."""
+        self.run_of("finalize")
+        self.again()
+        version = ".".join(map(str, sys.version_info[:2]))
+        packages = self.folder / f".local/lib/python{version}/site-packages"
+        packages.mkdir(parents=True)
+        (packages / "usercustomize.py").write_text("raise KeyboardInterrupt\n")
+        done = self.by_bash('"$@"', HOME=str(self.folder), **self.checker(SAYS_FREE))
+        self.assertEqual((done.returncode, done.stderr), (0, ""))
+
     def test_a_standard_error_that_is_closed_or_full(self):
         self.run_of(*BOTH)
         self.again()

@@ -1,4 +1,4 @@
-#!/usr/bin/env -S python3 -E
+#!/usr/bin/env -S python3 -ES
 """Answers words of mpiwait by its code before the proof: `rt try` of the Rattle kit builds and runs it.
 
 `./mpiwait --unproved WORDS..` calls it. Standard output and the status are the program's own; so is
