@@ -8,6 +8,17 @@ import subprocess
 
 import journals
 
+MOST_SECONDS = 600  # that a program may take
+
+
+def ended(words, **more):
+    """The status and both outputs; no status where it takes too long."""
+    try:
+        run = subprocess.run(words, capture_output=True, check=False, timeout=MOST_SECONDS, **more)
+    except subprocess.TimeoutExpired:
+        return None, b"", b""
+    return run.returncode, run.stdout, run.stderr
+
 
 def made(folder):
     """The files in a folder that `close` made, which is gone afterwards."""
@@ -20,9 +31,8 @@ def made(folder):
 
 def answers(program, words, folder, **variables):
     """The status, both outputs, and the files that were made, with these variables of the environment too."""
-    environment = os.environ | variables
-    run = subprocess.run([program, *words], cwd=folder, env=environment, capture_output=True, check=False)
-    return run.returncode, run.stdout.decode("latin-1"), run.stderr.decode("latin-1"), made(folder / "OUT")
+    status, out, err = ended([program, *words], cwd=folder, env=os.environ | variables)
+    return status, out.decode("latin-1"), err.decode("latin-1"), made(folder / "OUT")
 
 
 def wanted_answers(words, folder):

@@ -162,6 +162,37 @@ class Script(unittest.TestCase):
             self.assertEqual(done.returncode, 4)
             self.assertIn(LINE + "mpiwait: ", done.stderr)
 
+    def run_by_bash(self, redirection, path=None):
+        """The status where a redirection of bash goes before, and standard error."""
+        words = ["bash", "-c", f'exec "$0" "$@" {redirection}', self.top / "mpiwait", "--unproved", "run"]
+        path = f"{self.folder / 'bin'}:{os.environ['PATH']}" if path is None else path
+        done = subprocess.run(words, cwd=self.here, env={**os.environ, "PLAYED": str(self.folder), "PATH": path},
+                              capture_output=True, text=True, check=False)
+        return done.returncode, done.stderr
+
+    def test_without_a_standard_error_there_is_no_verdict(self):
+        """Nobody could see that it isn't proved."""
+        self.play("verdict free\n")
+        for redirection in ("2>/dev/full", "2>&-"):
+            self.assertEqual(self.run_by_bash(redirection)[0], 4)
+
+    def test_variables_of_python_are_no_verdict(self):
+        self.play("verdict free\n")
+        (self.here / "enum.py").write_text("raise ImportError('of another Python')\n")
+        for more in ({"PYTHONPATH": str(self.here)}, {"PYTHONHOME": "/none"}):
+            with patch.dict(os.environ, more):
+                self.assertEqual(self.run_script("--unproved", "run"), (0, "verdict free\n", LINE))
+
+    def test_without_python_there_is_no_verdict(self):
+        tools = self.folder / "tools"
+        tools.mkdir()
+        for name in ("bash", "env", "dirname", "readlink", "find"):
+            (tools / name).symlink_to(shutil.which(name))
+        (tools / "rt").symlink_to(self.folder / "bin/rt")
+        status, out, err = self.run_script("--unproved", "run", path=str(tools))
+        self.assertEqual((status, out), (4, ""))
+        self.assertIn("python3", err)
+
     def test_an_interrupted_answer_is_no_verdict(self):
         kept = self.folder / "kept"
         kept.mkdir()

@@ -1,11 +1,23 @@
 """What bench/hostile and bench/refuse ask of journals: the runs in bench/runs, whole, cut and changed."""
 
+import subprocess
 import unittest
+from unittest import mock
 
 from support import TOP, script
 from journal_faults import FORMS, check, lines_of
+import answers
 
 HOSTILE = script("hostile", TOP / "bench")
+# What bench/refuse makes of an answer where a request of some kind was refused, of as many pipes.
+JUDGED = (TOP / "bench/refuse").read_text().partition('case " $* " in')[0] + """
+status=$1 kind=$4 want_status=0 want='verdict free' out=$2 err=$3
+pipes=("${@:5}")
+printf '%s' "${out:+$out$'\n'}" >"$work/out"
+printf '%s' "${err:+$err$'\n'}" >"$work/err"
+: >"$work/told"
+judge_run
+"""
 
 
 class Runs(unittest.TestCase):
@@ -39,6 +51,30 @@ class Runs(unittest.TestCase):
         ):
             self.assertEqual(HOSTILE.journal_kind((0, text, "", None)), kind)
         self.assertEqual(HOSTILE.journal_kind((0, "", "", {"head": b"ranks 1\n"})), "closed")
+
+
+class Answers(unittest.TestCase):
+    def test_one_that_never_comes(self):
+        with mock.patch.object(answers, "MOST_SECONDS", 0.2):
+            self.assertEqual(HOSTILE.answer(["sleep", "60"]), (b"", b"", None))
+            self.assertEqual(answers.answers("sleep", ["60"], TOP), (None, "", "", None))
+
+    def judged(self, *given):
+        said = subprocess.run(["bash", "-c", JUDGED, "bash", *map(str, given)], capture_output=True, text=True)
+        return said.stdout.strip()
+
+    def test_of_what_may_be_refused(self):
+        thread = "fault rank {} call 0 E4 thread not started".format
+        for given, said in (
+            ((0, "verdict free", "", "REFUSE_MEMORY"), "the report"),
+            ((4, "", "fault memory", "REFUSE_MEMORY"), "`fault memory`"),
+            ((4, "", "fault memory", "REFUSE_THREAD"), "other"),
+            ((4, "", thread(1), "REFUSE_MEMORY", "r0", "r1"), f"`{thread(1)}`"),
+            ((4, "", thread(2), "REFUSE_MEMORY", "r0", "r1"), "other"),
+            ((4, "", thread(0), "REFUSE_MEMORY"), "other"),
+        ):
+            with self.subTest(given):
+                self.assertEqual(self.judged(*given), said)
 
 
 if __name__ == "__main__":

@@ -8,6 +8,7 @@ from support import TOP, Folders, journal
 from companions.runs import Answer
 from companions import run
 from companions.journals import Journal
+from companions.script import Stopped
 
 CHECKER = {"MPIWAIT": str(TOP / "tests/tools/judge")}
 
@@ -50,6 +51,33 @@ class Limits(Folders):
     def test_free_without_a_limit(self):
         table = "limit   verdict\nnone    free\nthe verdict is free without a limit\n"
         self.assertEqual(self.said("finalize"), (0, table))
+
+    def test_several_runs(self):
+        """The least limit is that at which none of them hangs."""
+        self.run_of("finalize")
+        (self.folder / "journal/run-b").mkdir()
+        for rank in (0, 1):
+            calls = f"send 0 {1 - rank} 0 8 @3 / recv 0 {1 - rank} 0 @4 / finalize"
+            self.write(f"journal/run-b/journal{rank}", journal(rank, 2, calls))
+        done = self.command("limits", ".", env=os.environ | CHECKER)
+        self.assertEqual((done.returncode, done.stdout.splitlines()[-1]), (0, "the least limit with the verdict free is 8"))
+
+    def test_the_worst_of_several_answers(self):
+        self.run_of("finalize", "finalize")
+        runs = [mock.Mock(folder=name, has_ended=True, journals=[]) for name in ("hangs", "fails")]
+        answers = {"hangs": Answer(1, {"verdict": "hang"}), "fails": Answer(4, None, "out of memory")}
+        with mock.patch("companions.run.Judge", return_value=mock.Mock(ask=lambda folder, eager: answers[folder])):
+            with mock.patch("builtins.print"), self.assertRaises(Stopped) as stopped:
+                run.try_limits(runs)
+        self.assertEqual(stopped.exception.status, 4)
+
+    def test_doubts(self):
+        """Where recorded calls may match others, no verdict can be trusted."""
+        self.run_of("finalize")
+        self.write("journal/left0", "P 000000000003 calls of another thread\n")
+        done = self.command("limits", ".", env=os.environ | CHECKER)
+        self.assertEqual((done.returncode, done.stdout), (6, ""))
+        self.assertIn("recorded calls may match calls that weren't recorded", done.stderr)
 
     def test_each_form_of_size(self):
         calls = ("send 0 1 0 3", "rsend 0 1 0 5 @2", "isend 1 0 1 0 7", "irsend 2 0 1 0 9 @1", "sendrecv 0 1 0 any any 11",

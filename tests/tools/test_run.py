@@ -5,6 +5,7 @@ import fcntl
 import io
 import json
 import os
+import select
 import shutil
 import signal
 import subprocess
@@ -22,13 +23,15 @@ from companions.script import Stopped
 
 CHECKER = {"MPIWAIT": str(TOP / "tests/tools/judge")}
 HERE = " on a-host"
+# What a checker answers that needs no journals: a shell's words.
+SAYS_FREE = """printf '{"causes":[],"findings":[],"left":[],"lines":[],"ranks":[],"verdict":"free"}'"""
 
 
 class Words(Folders):
     def test_wrong_ones(self):
         for words in ([], ["--again", "mpirun"], ["--again", "--for", "3"], ["--for", "0", "x"], ["--for", "-1", "x"],
                       ["--frames", "17", "x"], ["--mpi", "lam", "x"], ["--fast", "x"], ["--eager", "2147483648", "x"],
-                      ["--eager", "-1", "x"], ["--quiet", "no", "x"], ["--again", "--stop"], ["--for"]):  # fmt: skip
+                      ["--eager", "-1", "x"], ["--quiet", "no", "x"], ["--quiet", "nan", "x"], ["--for", "nan", "x"], ["--again", "--stop"], ["--for"]):  # fmt: skip
             with self.subTest(words), contextlib.redirect_stderr(io.StringIO()):
                 with self.assertRaises(Stopped) as stopped:
                     run.words_of(words)
@@ -127,6 +130,77 @@ class Again(Folders):
         done = self.again(MPIWAIT="./none")
         self.assertEqual((done.returncode, done.stdout), (4, ""))
         self.assertIn("can't be run", done.stderr)
+
+    def checker(self, words):
+        """The variable that names a checker which is these words of a shell."""
+        self.write("checker", f"#!/bin/sh\n{words}\n")
+        os.chmod(self.folder / "checker", 0o755)
+        return {"MPIWAIT": str(self.folder / "checker")}
+
+    def by_bash(self, script, *words, **environment):
+        """Runs tools/run by its own first line, with what a script of bash has changed before."""
+        words = ["bash", "-c", script, "bash", TOOLS / "run", "--again", *words]
+        return subprocess.run(words, capture_output=True, text=True, cwd=self.folder, env=os.environ | environment)
+
+    def test_a_checker_that_is_built_first_says_so_meanwhile(self):
+        """It waits here until its words were read."""
+        free = self.checker(f"echo 'half an hour' >&2; read -r _ <'{self.folder}/pipe'; {SAYS_FREE}")
+        os.mkfifo(self.folder / "pipe")
+        script = "from companions.runs import Judge; Judge().try_out()"
+        tried = subprocess.Popen([sys.executable, "-c", script], cwd=TOOLS, env=os.environ | free, stderr=subprocess.PIPE)
+        self.addCleanup(tried.stderr.close)
+        said = select.select([tried.stderr], [], [], 5)[0]
+        (self.folder / "pipe").write_text("on\n")
+        self.assertEqual((tried.wait(), bool(said)), (0, True))
+
+    def test_a_checker_that_is_killed(self):
+        self.run_of(*BOTH)
+        for words, said in (("kill -KILL $$", "SIGKILL"), ("exit 7", "exit status 7")):
+            done = self.again(**self.checker(words))
+            self.assertEqual(done.returncode, 4)
+            self.assertIn(said, done.stdout)
+
+    def test_variables_of_python_are_for_the_program(self):
+        """Else a module of another Python fails the script before it can say so, with the status of a hang."""
+        self.run_of("finalize")
+        self.again()
+        self.write("enum.py", "raise ImportError('of another Python')\n")
+        free = self.checker(SAYS_FREE)
+        for more in ({"PYTHONPATH": str(self.folder)}, {"PYTHONSAFEPATH": "1"}, {"PYTHONHOME": "/none"}):
+            with self.subTest(more):
+                done = self.by_bash('"$@"', **free, **more)
+                self.assertEqual((done.returncode, done.stderr), (0, ""))
+
+    def test_an_interrupt_while_python_starts(self):
+        """Python imports modules of the machine first, and ends with the status of a hang if it is interrupted there."""
+        self.run_of("finalize")
+        self.again()
+        version = ".".join(map(str, sys.version_info[:2]))
+        packages = self.folder / f".local/lib/python{version}/site-packages"
+        packages.mkdir(parents=True)
+        (packages / "usercustomize.py").write_text("raise KeyboardInterrupt\n")
+        done = self.by_bash('"$@"', HOME=str(self.folder), **self.checker(SAYS_FREE))
+        self.assertEqual((done.returncode, done.stderr), (0, ""))
+
+    def test_a_standard_error_that_is_closed_or_full(self):
+        self.run_of(*BOTH)
+        self.again()
+        for script in ('"$@" 2>&-', '"$@" 2>/dev/full'):
+            for words, status in (([], 1), (["--json", "none/a.json"], 4)):
+                with self.subTest(script, words=words):
+                    done = self.by_bash(script, *words, **CHECKER)
+                    self.assertEqual((done.returncode, done.stdout[:12]), (status, "verdict hang"))
+
+    def test_help_that_cannot_be_written(self):
+        for script in ('"$1" --help >/dev/full', '"$1" --help | true; exit "${PIPESTATUS[0]}"'):
+            done = self.by_bash(script)
+            self.assertEqual((done.returncode, "Exception" in done.stderr), (4, False))
+
+    def test_more_ranks_than_files_may_be_open(self):
+        self.run_of(*["finalize"] * 90)
+        self.again()
+        done = self.by_bash('ulimit -S -n 64; "$@"', **self.checker(SAYS_FREE))
+        self.assertEqual((done.returncode, done.stderr), (0, ""))
 
     def test_folders(self):
         self.assertEqual(self.command("run", "--again", env=os.environ | CHECKER).returncode, 3)
@@ -285,6 +359,12 @@ class Processes(unittest.TestCase):
         for number in (signal.SIGTERM, signal.SIGHUP):
             words = ["sh", "-c", f"kill -{int(number)} {os.getpid()}; sleep 60"]
             self.assertTrue(watching.run_command(words, None)[1])
+
+    def test_a_hangup_that_is_ignored(self):
+        """As nohup has it: it ends neither the script nor the command."""
+        self.addCleanup(signal.signal, signal.SIGHUP, signal.signal(signal.SIGHUP, signal.SIG_IGN))
+        words = ["sh", "-c", f"kill -HUP {os.getpid()} $$; sleep 0.5; exit 3"]
+        self.assertEqual(watching.run_command(words, None), (3, False))
 
     def test_a_terminal_that_interrupts(self):
         words = ["sh", "-c", f"kill -{int(signal.SIGINT)} {os.getpid()}; exit 130"]

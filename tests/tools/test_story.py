@@ -155,7 +155,7 @@ class Titles(Folders):
                          "refused rank 0 line 3 J8 request: MPI_Wait at /a.py:4")  # fmt: skip
 
     def test_of_what_is_refused_in_any_form(self):
-        for calls in ("barrier @4 / finalize", "send 0 x 0 @4", "waitall @4", "barrier 0 @x", "\xff @4"):
+        for calls in ("barrier @4 / finalize", "send 0 x 0 @4", "send x 0 0 @4", "waitall @4", "barrier 0 @x", "\xff @4"):
             with self.subTest(calls):
                 self.assertTrue(self.title(calls).startswith("refused rank 0 line 2 J"))
 

@@ -6,6 +6,7 @@ tools/record/journal.h has the forms of these texts. A line is looked up by its 
 import mmap
 import os
 import re
+import resource
 from collections import namedtuple
 from contextlib import suppress
 from pathlib import Path
@@ -26,6 +27,7 @@ SENDS = STARTED_SENDS | {"send", "ssend", "bsend", "rsend", "sendrecv", "isendre
 RECEIVES = {"recv", "irecv", "sendrecv", "isendrecv", "probe", "iprobe", "mprobe", "improbe"}
 STANDARD = {"send", "isend", "rsend", "irsend", "sendrecv", "isendrecv"}
 WAITS = {"wait", "test", "waitany", "waitsome", "mrecv"}
+NUMBER = re.compile("[0-9]{1,10}")
 # How many requests or messages come before the communicator of a call that is on one.
 BEFORE = dict.fromkeys(COLLECTIVES | MAKERS | SENDS | RECEIVES, 0) | {"isendrecv": 2}
 BEFORE |= dict.fromkeys(STARTED_COLLECTIVES | STARTED_SENDS, 1)
@@ -183,6 +185,8 @@ class Journal:
 
 def journals_in(folder, run=None):
     """The journals of all ranks, by rank: as many as the first one that is there says."""
+    most = resource.getrlimit(resource.RLIMIT_NOFILE)[1]
+    resource.setrlimit(resource.RLIMIT_NOFILE, (most, most))  # each has a file open
     ranks = [int(name[7:]) for name in os.listdir(folder) if re.fullmatch(r"journal\d{1,4}", name)]
     journals = {rank: Journal(folder, rank, run) for rank in sorted(ranks)}
     count = next((one.header.ranks for one in journals.values() if one.header), 0)
@@ -213,11 +217,12 @@ class Call:
     def __init__(self, run, rank, text, number=None):
         text, _, site = (text, "", "") if text.startswith("stopped") else text.partition(" @")
         self.word, *self.fields = text.split(" ")
-        self.site, self.number, self.reports = int(site) if site.isdecimal() else 0, number, []
+        self.site, self.number, self.reports = int(site) if NUMBER.fullmatch(site) else 0, number, []
         self.run, self.rank, self.name = run, rank, name_of(self.word, self.fields)
         before = BEFORE.get(self.word)
         self.arguments = self.fields[before + 1 :] if before is not None else []
-        self.comm = int(self.fields[before]) if self.fields[before or 0 :] and before is not None else None
+        comm = self.fields[before] if before is not None and self.fields[before:] else ""
+        self.comm = int(comm) if NUMBER.fullmatch(comm) else None
         self.requests = self.fields if self.word in WAITS else self.fields[: before or self.word == "imrecv"]
         self.root = self.arguments[0] if self.arguments and self.word.removeprefix("i") in ROOTED else None
 

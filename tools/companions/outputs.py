@@ -11,7 +11,7 @@ from urllib.parse import quote
 
 from .causes import alike_key, need_words, stuck_lines
 from .journals import windows_in
-from .script import Status, Stopped, drop_output, grouped, ranks_named, why_of, worst
+from .script import Status, Stopped, grouped, ranks_named, why_of, worst
 
 RED, MOST_ARROWS = "#c0392b", 200
 RULES = {"hang": "A rank waits for ever", "may-hang": "A rank may wait for ever, by what MPI allows",
@@ -235,7 +235,7 @@ def report(stories, files):
     try:
         print("\n".join(texts) if len(stories) > 1 else stories[0].text, end="", flush=True)
     except BrokenPipeError:  # the reader wants no more; the files are written all the same
-        drop_output()
+        os.dup2(os.open(os.devnull, os.O_WRONLY), 1)
     faults = write_outputs(stories, files)
     if faults:
         raise Stopped("; ".join(faults))

@@ -11,7 +11,7 @@ from pathlib import Path
 from .outputs import OUTPUTS, report, runs_in
 from .recorder import library_of, with_recorder
 from .runs import MOST_BYTES, VERDICTS, Judge
-from .script import HERE, Status, Stopped, Words, plural, say
+from .script import HERE, Status, Stopped, Words, plural, say, worst
 from .watching import Alarm, run_command
 from .windows import Judging, Windows, kept_runs, stories_of
 
@@ -28,7 +28,8 @@ LIMITS = """Finds the least N of --eager N at which a recorded run can't hang. F
 
 It judges by 0 and by sizes of standard sends, since between two of these no verdict changes: by halves, or
 all if ranks were cut off. The status is 0 if some limit is free, else 1; 2, 3 and 4 are as for tools/run.
-Of a run's windows it judges those that are kept: 6 if others weren't judged strictly with that limit."""
+Of windows it judges those that are kept. It is 6 if others weren't judged strictly with that limit, or calls
+weren't recorded that recorded ones may match."""
 
 
 def words_of(argv):
@@ -53,7 +54,7 @@ def words_of(argv):
     words.files = {name: getattr(words, name) for name in OUTPUTS if getattr(words, name)}
     words.unproved = words.unproved and not os.environ.get("MPIWAIT")
     words.command = words.command[words.command[:1] == ["--"] :]
-    if (1 if words.limit is None else words.limit) <= 0 or words.quiet <= 0:
+    if not (1 if words.limit is None else words.limit) > 0 or not words.quiet > 0:
         parser.error("--for and --quiet take a number of seconds above 0")
     if not 0 <= (words.eager or 0) <= MOST_BYTES:
         parser.error(f"--eager takes a number of bytes up to {MOST_BYTES}")
@@ -136,14 +137,15 @@ def main(argv):
 
 
 def try_limits(runs):
-    """Judges a run, or its windows, with limits, and prints each verdict. Answers those that are free."""
+    """Judges runs, or their windows, with limits, and prints each verdict. Answers those that are free."""
     journals, judge, free = [one for run in runs for one in run.journals], Judge(), []
     sizes = sorted({0}.union(*(one.sizes() for one in journals)))
     has_ended = all(run.has_ended for run in runs)
 
     def is_free(limit):
         answers = [judge.ask(run.folder, eager=limit) for run in runs]
-        answer = next((one for one in answers if one.status != Status.FREE), answers[-1])
+        status = worst([one.status for one in answers])
+        answer = next(one for one in answers if one.status == status)
         if answer.report is None:
             print(answer.said, flush=True)
             raise Stopped("this run can't be judged", answer.status)
@@ -164,11 +166,15 @@ def limits_main(argv):
     parser.add_argument("folder", metavar="FOLDER", type=Path)
     folder = parser.parse_args(argv).folder
     folder = folder / "journal" if (folder / "journal").is_dir() else folder
-    if folder not in runs_in(folder):
+    tops = runs_in(folder)
+    if folder not in tops:
         raise Stopped(f"{folder} has no journals", Status.WORDS)
-    free = try_limits(kept_runs(folder))
+    runs = [run for top in tops for run in kept_runs(top)]
+    if any(run.count("P") for run in runs):
+        raise Stopped("recorded calls may match calls that weren't recorded", Status.NOT_JUDGED)
+    free = try_limits(runs)
     least = None if not free or None in free else min(free)
-    unjudged = Windows(folder, None, eager=least).unjudged() if free else 0
+    unjudged = sum(Windows(top, None, eager=least).unjudged() for top in tops) if free else 0
     if unjudged:
         print(f"{plural(unjudged, 'window')} that {'is' if unjudged == 1 else 'are'} gone may hang: "
               "tools/run --keep keeps all")  # fmt: skip

@@ -189,13 +189,16 @@ class Judge:
         self.path = os.path.abspath(path) if "/" in path else path
         self.words, self.is_nice = ["nice", "-n", str(nice)] if nice else [], nice > 0
         self.words += [self.path, "--unproved"] if unproved else [self.path]
+        self.errors = subprocess.PIPE
 
     def run(self, command, folder):
-        more = {"stdin": subprocess.DEVNULL, "capture_output": True, "text": True, "errors": "replace"}
+        more = {"stdin": subprocess.DEVNULL, "stdout": subprocess.PIPE, "stderr": self.errors}
+        more |= {"text": True, "errors": "replace"}
         return subprocess.run(command, cwd=folder, check=False, start_new_session=self.is_nice, **more)
 
     def try_out(self, has_windows=False):
-        """Judges a run of one rank that makes no call. It may have to be built for that."""
+        """Judges a run of one rank that makes no call. It may have to be built for that, which it says."""
+        self.errors = None
         for end in ("finalize", "cut") if has_windows else ("finalize",):
             with tempfile.TemporaryDirectory() as folder:
                 Path(folder, "journal0").write_text(f"journal 2 0 1 a-run o a-library\n{end}\n")
@@ -213,10 +216,11 @@ class Judge:
         except OSError as fault:
             raise Stopped(f"the checker {self.path} can't be run: {fault.strerror}") from None
         if done.returncode in VERDICTS:
-            sys.stderr.write(done.stderr)  # that the checker isn't proved
+            sys.stderr.write(done.stderr or "")  # that the checker isn't proved
             return Answer(done.returncode, json.loads(done.stdout))
         status = done.returncode if done.returncode in (Status.REFUSED, Status.WORDS) else 4
-        return Answer(status, None, (done.stdout + done.stderr).strip())
+        said = (done.stdout + (done.stderr or "")).strip()
+        return Answer(status, None, said or str(subprocess.CalledProcessError(done.returncode, self.path)))
 
 
 class Judgement:

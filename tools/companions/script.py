@@ -45,10 +45,6 @@ def say(text):
         print(f"tools/{Path(sys.argv[0]).name}: {text}", file=sys.stderr, flush=True)
 
 
-def drop_output():
-    os.dup2(os.open(os.devnull, os.O_WRONLY), 1)
-
-
 def why_of(fault):
     if isinstance(fault, (Stopped, KeyboardInterrupt)):
         return str(fault) or "it was interrupted"
@@ -60,19 +56,21 @@ def why_of(fault):
 
 def run_script(main):
     """Runs a script and ends it: with 4, if a file, the output or what it was given fails it."""
+    sys.stderr, status = sys.stderr or open(os.devnull, "w", encoding="ascii"), 0
     try:
         if sys.stdout is None:
             raise Stopped("there is no standard output")
         sys.stdout.reconfigure(errors="backslashreplace")
-        status = main(sys.argv[1:])
+        with suppress(SystemExit):  # after the help
+            status = main(sys.argv[1:])
         sys.stdout.flush()
     except (Exception, KeyboardInterrupt) as fault:
         status = getattr(fault, "status", Status.IMPOSSIBLE)
         if not isinstance(fault, BrokenPipeError):  # then the reader wants no more
             say(why_of(fault))
-        if sys.stdout is not None:
-            drop_output()
-    sys.exit(int(status))
+    with suppress(OSError):
+        sys.stderr.flush()
+    os._exit(int(status))  # if standard error is full, Python would end with another one
 
 
 def plural(count, one, many=None):

@@ -1,4 +1,4 @@
-#!/usr/bin/env python3
+#!/usr/bin/env -S python3 -ES
 """Answers words of mpiwait by its code before the proof: `rt try` of the Rattle kit builds and runs it.
 
 `./mpiwait --unproved WORDS..` calls it. Standard output and the status are the program's own; so is
@@ -97,10 +97,12 @@ def interrupted(*_):
 
 if __name__ == "__main__":
     for number in (signal.SIGINT, signal.SIGTERM, signal.SIGHUP):
-        signal.signal(number, interrupted)
+        if signal.getsignal(number) != signal.SIG_IGN:  # as nohup has it
+            signal.signal(number, interrupted)
+    ended = 4
     try:
         ended = main(sys.argv[1:])
     except Exception as why:  # whatever it is, its status is no verdict
-        ended = 4
         write(2, f"mpiwait: {why}\n")
-    os._exit(ended)
+    finally:  # also where that can't be written
+        os._exit(ended)

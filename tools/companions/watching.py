@@ -137,7 +137,8 @@ def run_command(command, environment, limit=None, watch=None):
         seen.append(number)
         asked.extend([] if number == signal.SIGINT and is_in_front() else [number])
 
-    before = {one: signal.signal(one, end) for one in (signal.SIGTERM, signal.SIGHUP, signal.SIGINT)}
+    more = [signal.SIGHUP] if signal.getsignal(signal.SIGHUP) != signal.SIG_IGN else []  # nohup ignores it
+    before = {one: signal.signal(one, end) for one in (signal.SIGTERM, signal.SIGINT, *more)}
     try:
         child = subprocess.Popen(command, env=environment)
         while child.returncode is None:
