@@ -108,3 +108,9 @@ Request *requests_next_open(size_t *place) {
         ++*place;
     return *place < room ? &places[(*place)++] : NULL;
 }
+
+const Request *requests_next_persistent(size_t *place) {
+    while (*place < room && !places[*place].template)
+        ++*place;
+    return *place < room ? &places[(*place)++] : NULL;
+}

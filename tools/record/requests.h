@@ -65,6 +65,9 @@ void request_closes(Request *request);
 int requests_open(void);
 Request *requests_next_open(size_t *place);
 
+/* The next persistent one whose starts are recorded, likewise. */
+const Request *requests_next_persistent(size_t *place);
+
 #pragma GCC visibility pop
 
 #endif

@@ -88,11 +88,21 @@ void windows_close(void) { are_cut = false; }
 /* A receive of which it isn't written yet what it got is one in the next window. */
 static bool goes_on(const Request *request) { return request->receive.is_there && !request->told; }
 
+/* Whether the program freed the communicator of a persistent request. In another window its next start couldn't
+ * name it. */
+static bool may_start_on_freed(void) {
+    size_t place = 0;
+    for (const Request *one; (one = requests_next_persistent(&place));)
+        if (!is_had(one->template->fields[0]))
+            return true;
+    return false;
+}
+
 /* What isn't known, or can't go on in another window. */
 static bool has_doubts(void) {
     int count;
     const Request **active = requests_active(&count);
-    bool found = !active || in_doubt || !recording || holds_messages();
+    bool found = !active || in_doubt || !recording || holds_messages() || may_start_on_freed();
     for (int i = 0; i < count && !found; i++) {
         const Request *one = active[i];
         bool is_lost = goes_on(one) && !is_had(one->receive.comm);

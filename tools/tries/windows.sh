@@ -85,6 +85,16 @@ try_random_windows() {
         "are unfinished, $right ended"
 }
 
+# A freed communicator isn't in the next window; while persistent requests may be started on it there is none.
+try_freed() {
+    local library=$1
+    prepare "$library" windows-freed.c 3
+    run_with --window 300 --for 60 "${command[@]}" inside
+    expect_windows "$library: windows-freed.c inside" 0 2 'verdict free'
+    run_with --window 300 --for 60 "${command[@]}" persistent
+    expect_windows "$library: windows-freed.c persistent" 0 0 'moments without a cut: calls failed'
+}
+
 # A rank that is recorded no further exchanges all the same.
 try_closed_journal() {
     local name="$1: windows.c closes"
@@ -213,5 +223,6 @@ try_windows() {
     try_asked_window "$library"
     try_closed_journal "$library"
     try_unrecorded_window "$library"
+    try_freed "$library"
     try_random_windows "$library"
 }
