@@ -50,7 +50,7 @@ Request *started(MPI_Request *handle, int number) {
     }
     Request *request = added(*handle);
     if (request) {
-        request->number = number;
+        request->number = journal_is_full ? 0 : number; /* `full' may have come in place of its line */
         request->site = journal_site;
         request->active = true;
     }
