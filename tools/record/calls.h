@@ -66,6 +66,9 @@ bool take_turn(void);
 /* Whether the program called, and not MPI. */
 bool is_of_program(void);
 
+/* Whether another thread is inside a recorded call. */
+bool another_calls(void);
+
 /* A barrier must follow the call, even if an error handler of the program leaves it. */
 void want_barrier(MPI_Comm comm);
 bool take_barrier(MPI_Comm *comm);

@@ -205,8 +205,12 @@ int MPI_Finalize(void) {
 }
 ALSO_PMPI(Finalize)
 
+/* A call that another thread is in, or this one below a handler of a signal, never returns. Then its line is
+ * the last one, as of a rank that is killed. */
 int MPI_Abort(MPI_Comm comm, int code) {
-    if (BEGINS) {
+    if (another_calls())
+        return REAL(Abort)(comm, code);
+    if (BEGINS_QUIETLY) {
         journal_call("abort", 0, NULL, site());
         journal_close();
         recording = false;
