@@ -321,6 +321,17 @@ try_no_memory() {
     done
 }
 
+# Signals of the program interrupt what reserves room on the disk.
+try_interrupts() {
+    local library=$1 name="$1: a signal while room is reserved"
+    prepare "$library" many-wildcards.c 1
+    compile "mpicc.$library" -shared -fPIC -o "$work/interrupts.so" interrupts.c -ldl
+    LD_PRELOAD=$work/interrupts.so run_with --window 0 "${command[@]}"
+    check_journals "$name"
+    expect_status "$name" 5
+    ! grep -q 'no room' "$work/errors" || fails "$name: the recording stopped"
+}
+
 # A journal has at most 32 bytes for each line, and nothing is added after the last call line.
 try_bounds() {
     local library=$1 name="$1: the size of a journal" lines bytes
