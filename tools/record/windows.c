@@ -7,15 +7,19 @@
  * journals right there.
  *
  * All ranks compute from one exchange when the next one is: so many such calls of this communicator later
- * that some eight fall into a window, but at most twice as many as last time. So they count these calls
- * whether or not they are still recorded.
+ * that some eight fall into a window, but at most twice as many as last time. It is never far off, since
+ * much more may be called between these calls than before. So they count them whether or not they are still
+ * recorded.
  */
 #define _GNU_SOURCE
 #include "windows.h"
 #include "sums.h"
 #include <string.h>
 
-enum { EXCHANGES = 8 }; /* in a window, some */
+enum {
+    EXCHANGES = 8,   /* in a window, some */
+    MOST_CALLS = 64 /* from one to the next */
+};
 
 /* The calls of one communicator. */
 typedef struct {
@@ -164,19 +168,20 @@ static void note_why(const uint64_t sums[3]) {
 static void plan_next(Meetings *here, unsigned long lines) {
     unsigned long a_call = lines / here->period, calls = wanted / EXCHANGES / (a_call ? a_call : 1);
     calls = calls > 2 * here->period ? 2 * here->period : calls;
+    calls = calls > MOST_CALLS ? MOST_CALLS : calls;
     here->left = here->period = calls ? calls : 1;
     here->lines = journal_lines();
 }
 
 static void exchange(Meetings *here) {
     unsigned long now = journal_lines();
-    uint64_t sums[] = {sum_of_messages(), sum_of_waves(), has_doubts()}, all[3];
-    uint64_t lines[] = {now - cut_at, now - here->lines, journal_is_full}, most[3];
-    CALL(Allreduce, (sums, all, 3, MPI_UINT64_T, MPI_SUM, own));
+    uint64_t lines[] = {now - cut_at, now - here->lines, journal_is_full}, most[3], all[3];
     CALL(Allreduce, (lines, most, 3, MPI_UINT64_T, MPI_MAX, own));
     plan_next(here, most[1]);
     if (most[0] < wanted || most[2])
         return;
+    uint64_t sums[] = {sum_of_messages(), sum_of_waves(), has_doubts()};
+    CALL(Allreduce, (sums, all, 3, MPI_UINT64_T, MPI_SUM, own));
     if (all[0] || all[1] || all[2])
         note_why(all);
     else

@@ -95,6 +95,13 @@ try_freed() {
     expect_windows "$library: windows-freed.c persistent" 0 0 'moments without a cut: calls failed'
 }
 
+# Much more may be called between two barriers than before.
+try_phases() {
+    prepare "$1" phases.c 2
+    run_with --for 100 "${command[@]}" 60000 200 8000
+    expect_windows "$1: phases.c" 0 2 'verdict free'
+}
+
 # A rank that is recorded no further exchanges all the same.
 try_closed_journal() {
     local name="$1: windows.c closes"
@@ -224,5 +231,6 @@ try_windows() {
     try_closed_journal "$library"
     try_unrecorded_window "$library"
     try_freed "$library"
+    try_phases "$library"
     try_random_windows "$library"
 }
