@@ -264,9 +264,10 @@ try_unrecorded() {
 # The ranks' own journals, where there is so much room for them.
 record_into() {
     local library=$1 folder=$2
+    shift 2
     status=0
     timeout 120 env LD_PRELOAD="$here/record/out/$library/record.so" MPIWAIT_JOURNAL="$folder" \
-        "${command[@]}" >"$work/said" 2>"$work/errors" </dev/null || status=$?
+        "${command[@]}" "$@" >"$work/said" 2>"$work/errors" </dev/null || status=$?
 }
 
 try_no_room() {

@@ -196,12 +196,27 @@ try_never_clean() {
     fi
 }
 
+# A communicator takes no longer to make the more were made before. Only MPICH makes them so fast that it shows.
+try_many_communicators() {
+    local library=$1 way
+    [[ $library == mpich ]] || return 0
+    for way in '' group; do
+        prepare "$library" many-communicators.c 2
+        rm -rf -- "$work/many"
+        mkdir -- "$work/many"
+        # shellcheck disable=SC2086
+        MPIWAIT_WINDOW=200000 record_into "$library" "$work/many" $way
+        expect_line "$library: many-communicators.c $way" 0 ' s, and ' 'none takes longer than before'
+    done
+}
+
 try_windows_large() {
     knows_windows || { echo "$1: windows-large: passed over: the checker knows none"; return; }
     prepare "$1" windows.c 4
     try_long_runs "$1"
     try_head_in_a_window "$1"
     try_never_clean "$1"
+    try_many_communicators "$1"
 }
 
 try_windows() {
