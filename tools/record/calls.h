@@ -146,6 +146,9 @@ static inline uintptr_t bits(MPI_Request handle) {
 /* The number of the next request or message; 0 when the journal takes no more call lines. */
 int new_number(void);
 
+/* A new journal begins, whose numbers begin anew: so they don't end in a run of any length. */
+void restart_numbers(void);
+
 /* A call started a request; its number is 0 if the call has no line. Answers its entry in the table, to be
  * filled in, or NULL if the recording stopped. */
 Request *started(MPI_Request *handle, int number);

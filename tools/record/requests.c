@@ -53,8 +53,8 @@ static int by_number(const void *one, const void *other) {
     return (*(const Request *const *)one)->number - (*(const Request *const *)other)->number;
 }
 
-const Request **requests_active(int *count) {
-    const Request **found = malloc((used + 1) * sizeof *found);
+Request **requests_active(int *count) {
+    Request **found = malloc((used + 1) * sizeof *found);
     *count = 0;
     for (size_t i = 0; found && i < room; i++)
         if (places[i].handle != 0 && places[i].active && places[i].number)

@@ -52,7 +52,7 @@ Request *requests_add(uintptr_t handle);
 void requests_remove(uintptr_t handle);
 
 /* The active ones that have a number, in the order in which they were started; NULL without memory. */
-const Request **requests_active(int *count);
+Request **requests_active(int *count);
 
 /* Whether it has a wildcard. */
 void request_is_wild(Request *request, bool wild);

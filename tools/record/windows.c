@@ -105,7 +105,7 @@ static bool may_start_on_freed(void) {
 /* What isn't known, or can't go on in another window. */
 static bool has_doubts(void) {
     int count;
-    const Request **active = requests_active(&count);
+    Request **active = requests_active(&count);
     bool found = !active || in_doubt || !recording || holds_messages() || may_start_on_freed();
     for (int i = 0; i < count && !found; i++) {
         const Request *one = active[i];
@@ -121,8 +121,10 @@ static int number_of_receive(const Request *request) {
     return request->second ? request->second : request->number;
 }
 
-static void put_start(const Request *request) {
+static void put_start(Request *request) {
     Receive wanted = request->receive;
+    request->number = new_number();
+    request->second = request->second ? new_number() : 0;
     if (!wanted.is_there || request->second)
         journal_call("isend", FIELDS(request->number, WORLD, NULL_PEER, 0), request->site);
     if (goes_on(request))
@@ -135,7 +137,7 @@ static void put_start(const Request *request) {
 /* The requests that are active go on in the next window. */
 static void cut(void) {
     int count;
-    const Request **active = requests_active(&count);
+    Request **active = requests_active(&count);
     cut_at = journal_lines();
     if (!active)
         journal_stop("there is no memory for its requests");
@@ -148,6 +150,7 @@ static void cut(void) {
             journal_report("=moved", FIELDS(number_of_receive(active[i])));
     journal_cut();
     report_communicators();
+    restart_numbers();
     for (int i = 0; i < count && recording; i++)
         put_start(active[i]);
     free(active);

@@ -95,6 +95,16 @@ try_freed() {
     expect_windows "$library: windows-freed.c persistent" 0 0 'moments without a cut: calls failed'
 }
 
+# Each window numbers its requests anew, so that no run has too many of them.
+try_numbers() {
+    local name="$1: windows.c, numbers of requests" most
+    prepare "$1" windows.c 3
+    run_with --window 600 --keep "${command[@]}" 400
+    expect_windows "$name" 0 2 'verdict free'
+    most=$(cat -- "$work/run/journal"/[0-9]*/journal0 | tr -d '\0' | sed -n 's/^i[a-z]* \([0-9]*\) .*/\1/p' | sort -n | tail -n 1)
+    ((most < 1200)) || fails "$name: $most"
+}
+
 # Much more may be called between two barriers than before.
 try_phases() {
     prepare "$1" phases.c 2
@@ -247,5 +257,6 @@ try_windows() {
     try_unrecorded_window "$library"
     try_freed "$library"
     try_phases "$library"
+    try_numbers "$library"
     try_random_windows "$library"
 }
