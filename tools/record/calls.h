@@ -66,6 +66,9 @@ bool take_turn(void);
 /* Whether the program called, and not MPI. */
 bool is_of_program(void);
 
+/* Whether another thread is inside a recorded call. */
+bool another_calls(void);
+
 /* A barrier must follow the call, even if an error handler of the program leaves it. */
 void want_barrier(MPI_Comm comm);
 bool take_barrier(MPI_Comm *comm);
@@ -142,6 +145,9 @@ static inline uintptr_t bits(MPI_Request handle) {
 
 /* The number of the next request or message; 0 when the journal takes no more call lines. */
 int new_number(void);
+
+/* A new journal begins, whose numbers begin anew: so they don't end in a run of any length. */
+void restart_numbers(void);
 
 /* A call started a request; its number is 0 if the call has no line. Answers its entry in the table, to be
  * filled in, or NULL if the recording stopped. */

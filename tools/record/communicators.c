@@ -11,8 +11,10 @@ static const char unnumbered[] = "calls that make communicators, of ones that ha
 static MPI_Comm last_asked = MPI_COMM_NULL;
 static int last_number;
 
+/* A function of the program that MPI calls may free it, and MPI_Comm_free isn't recorded there. */
 static int forget_number(MPI_Comm comm, int key, void *number, void *none) {
-    (void)comm, (void)key, (void)number, (void)none;
+    (void)comm, (void)key, (void)none;
+    frees_communicator((int)(intptr_t)number);
     last_asked = MPI_COMM_NULL;
     return MPI_SUCCESS;
 }

@@ -28,10 +28,16 @@ static struct {
 static const char others[] = "other calls";
 static pthread_mutex_t counting = PTHREAD_MUTEX_INITIALIZER;
 
-static void count_up(char *digit) {
-    while (*digit == '9')
-        *digit-- = '0';
+/* Of more than the digits can say it stays the most. */
+static void count_up(char *first) {
+    char *digit = first + DIGITS - 1;
+    while (digit >= first && *digit == '9')
+        digit--;
+    if (digit < first)
+        return;
     ++*digit;
+    while (++digit < first + DIGITS)
+        *digit = '0';
 }
 
 static int find_kind(Meaning meaning, const char *what) {
@@ -86,7 +92,7 @@ void left_out(Meaning meaning, const char *what) {
         kind = find_kind(meaning, what = others);
     if (kind == counts.kinds)
         kind = new_kind(meaning, what);
-    count_up(counts.kind[kind].line + 1 + DIGITS);
+    count_up(counts.kind[kind].line + 2);
     if (meaning == WAITS)
         goes_within(counts.kind[kind].line);
     pthread_mutex_unlock(&counting);

@@ -15,6 +15,7 @@ enum {
     FIRST_WINDOW = 1 << 16, /* the part of the journal that is mapped at first */
     WINDOW = 1 << 20,       /* the largest part that is mapped at a time */
     LONGEST_LINE = 1 << 15,
+    MOST_TIMES = 1000,   /* that room is reserved, if signals come meanwhile */
     LONGEST_STOP = 512,  /* the line with the reason why no more follow; there is always room for it */
     MOST_CALLS = 1000001 /* one more than a trace may have, since a trace has no MPI_Init */
 };
@@ -72,9 +73,17 @@ static bool may_have(unsigned long size) {
     return getrlimit(RLIMIT_FSIZE, &most) != 0 || most.rlim_cur == RLIM_INFINITY || size <= most.rlim_cur;
 }
 
+/* Some file systems let signals of the program interrupt it. */
+static int reserve(int file, long start, unsigned long size) {
+    int result = EINTR;
+    for (int i = 0; i < MOST_TIMES && result == EINTR; i++)
+        result = posix_fallocate(file, start, size);
+    return result;
+}
+
 /* Room on the disk is reserved first: a write into mapped memory can't return an error. */
 char *map_text(int file, long start, unsigned long size) {
-    if (!may_have(start + size) || posix_fallocate(file, start, size) != 0)
+    if (!may_have(start + size) || reserve(file, start, size) != 0)
         return NULL;
     char *place = mmap(NULL, size, PROT_READ | PROT_WRITE, MAP_SHARED, file, start);
     return place == MAP_FAILED ? NULL : place;

@@ -71,9 +71,11 @@ static void start_one(MPI_Request handle) {
     request->number = new_number();
     request->receive = (Receive){strcmp(template->word, "irecv") == 0, fields[0], fields[1], fields[2]};
     request->sent = request->receive.is_there ? 0 : sends(fields[0], fields[1], fields[2]);
-    request_is_wild(request, template->wild);
     if (request->number)
         PUT(template->word, request->number, fields[0], fields[1], fields[2], fields[3]);
+    if (journal_is_full) /* perhaps since that line */
+        request->number = 0;
+    request_is_wild(request, template->wild);
     request->site = journal_site;
 }
 

@@ -160,8 +160,11 @@ static void start(void) {
     find_bypasses();
 }
 
-/* Nothing is recorded before `start`, so the calls that MPI itself makes in MPI_Init aren't either. */
-static int initialized(int result) {
+/* Nothing is recorded before `start`, so the calls that MPI itself makes in MPI_Init aren't either. A second
+ * MPI_Init fails, and has the turn of a recorded call. */
+static int initialized(bool is_second, int result) {
+    if (is_second)
+        return over(result);
     if (result == MPI_SUCCESS && !recording)
         start();
     if (recording && take_turn())
@@ -177,15 +180,15 @@ static void before_mpi(void) {
 
 int MPI_Init(int *argc, char ***argv) {
     before_mpi();
-    BEGINS;
-    return initialized(CALL(Init, (argc, argv)));
+    bool is_second = BEGINS;
+    return initialized(is_second, CALL(Init, (argc, argv)));
 }
 ALSO_PMPI(Init)
 
 int MPI_Init_thread(int *argc, char ***argv, int required, int *provided) {
     before_mpi();
-    BEGINS;
-    return initialized(CALL(Init_thread, (argc, argv, required, provided)));
+    bool is_second = BEGINS;
+    return initialized(is_second, CALL(Init_thread, (argc, argv, required, provided)));
 }
 ALSO_PMPI(Init_thread)
 
@@ -205,8 +208,12 @@ int MPI_Finalize(void) {
 }
 ALSO_PMPI(Finalize)
 
+/* A call that another thread is in, or this one below a handler of a signal, never returns. Then its line is
+ * the last one, as of a rank that is killed. */
 int MPI_Abort(MPI_Comm comm, int code) {
-    if (BEGINS) {
+    if (another_calls())
+        return REAL(Abort)(comm, code);
+    if (BEGINS_QUIETLY) {
         journal_call("abort", 0, NULL, site());
         journal_close();
         recording = false;

@@ -53,8 +53,8 @@ static int by_number(const void *one, const void *other) {
     return (*(const Request *const *)one)->number - (*(const Request *const *)other)->number;
 }
 
-const Request **requests_active(int *count) {
-    const Request **found = malloc((used + 1) * sizeof *found);
+Request **requests_active(int *count) {
+    Request **found = malloc((used + 1) * sizeof *found);
     *count = 0;
     for (size_t i = 0; found && i < room; i++)
         if (places[i].handle != 0 && places[i].active && places[i].number)
@@ -105,6 +105,12 @@ int requests_open(void) { return open_requests; }
 
 Request *requests_next_open(size_t *place) {
     while (*place < room && !places[*place].open)
+        ++*place;
+    return *place < room ? &places[(*place)++] : NULL;
+}
+
+const Request *requests_next_persistent(size_t *place) {
+    while (*place < room && !places[*place].template)
         ++*place;
     return *place < room ? &places[(*place)++] : NULL;
 }

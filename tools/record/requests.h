@@ -52,7 +52,7 @@ Request *requests_add(uintptr_t handle);
 void requests_remove(uintptr_t handle);
 
 /* The active ones that have a number, in the order in which they were started; NULL without memory. */
-const Request **requests_active(int *count);
+Request **requests_active(int *count);
 
 /* Whether it has a wildcard. */
 void request_is_wild(Request *request, bool wild);
@@ -64,6 +64,9 @@ void request_closes(Request *request);
 /* How many are open, and the next of them in the table, from place 0 on, or NULL. */
 int requests_open(void);
 Request *requests_next_open(size_t *place);
+
+/* The next persistent one whose starts are recorded, likewise. */
+const Request *requests_next_persistent(size_t *place);
 
 #pragma GCC visibility pop
 

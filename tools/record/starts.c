@@ -2,10 +2,11 @@
 #define _GNU_SOURCE
 #include "calls.h"
 
-int new_number(void) {
-    static int last;
-    return journal_is_full ? 0 : ++last;
-}
+static int last;
+
+int new_number(void) { return journal_is_full ? 0 : ++last; }
+
+void restart_numbers(void) { last = 0; }
 
 static int query_done(void *kept, MPI_Status *status) {
     int error = status->MPI_ERROR; /* which the library sets by itself */
@@ -50,7 +51,7 @@ Request *started(MPI_Request *handle, int number) {
     }
     Request *request = added(*handle);
     if (request) {
-        request->number = number;
+        request->number = journal_is_full ? 0 : number; /* `full' may have come in place of its line */
         request->site = journal_site;
         request->active = true;
     }

@@ -83,24 +83,30 @@ uint64_t joins(Way way, int number) {
 }
 
 uint64_t origin_of_group(int size, const Field members[]) {
-    static uint64_t *groups;
+    static struct {
+        uint64_t group;
+        long calls;
+    } * groups;
     static int count, room;
+    int at = 0;
     if (!sums_are_kept)
         return 0;
     uint64_t group = hash_of_group(OF_GROUP, size, members);
-    if (count == room) {
-        uint64_t *more = realloc(groups, (room = 2 * room + 16) * sizeof *groups);
+    while (at < count && groups[at].group != group)
+        at++;
+    if (at == room) {
+        void *more = realloc(groups, (room = 2 * room + 16) * sizeof *groups);
         if (!more) {
             journal_stop("there is no memory for its communicators");
             return 0;
         }
         groups = more;
     }
-    long before = 0;
-    for (int i = 0; i < count; i++)
-        before += groups[i] == group;
-    groups[count++] = group;
-    return origin_of(OF_GROUP, 0, before);
+    if (at == count) {
+        groups[count].calls = 0;
+        groups[count++].group = group;
+    }
+    return origin_of(OF_GROUP, 0, groups[at].calls++);
 }
 
 static int by_identity(const void *one, const void *other) {

@@ -45,6 +45,11 @@ bool is_recorded(void) { return own.inside == 1 && has_turn(); }
 
 bool is_of_program(void) { return own.inside == 1; }
 
+bool another_calls(void) {
+    unsigned long now = __atomic_load_n(&turn.now, __ATOMIC_RELAXED);
+    return now != 0 && now != own.turn;
+}
+
 /* If several threads may call, the lines of another thread's call may be taken out later. */
 bool may_ask(void) { return is_recorded() && !alone && (!several || turn.is_of_first); }
 

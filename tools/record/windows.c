@@ -7,15 +7,19 @@
  * journals right there.
  *
  * All ranks compute from one exchange when the next one is: so many such calls of this communicator later
- * that some eight fall into a window, but at most twice as many as last time. So they count these calls
- * whether or not they are still recorded.
+ * that some eight fall into a window, but at most twice as many as last time. It is never far off, since
+ * much more may be called between these calls than before. So they count them whether or not they are still
+ * recorded.
  */
 #define _GNU_SOURCE
 #include "windows.h"
 #include "sums.h"
 #include <string.h>
 
-enum { EXCHANGES = 8 }; /* in a window, some */
+enum {
+    EXCHANGES = 8,   /* in a window, some */
+    MOST_CALLS = 64 /* from one to the next */
+};
 
 /* The calls of one communicator. */
 typedef struct {
@@ -88,11 +92,21 @@ void windows_close(void) { are_cut = false; }
 /* A receive of which it isn't written yet what it got is one in the next window. */
 static bool goes_on(const Request *request) { return request->receive.is_there && !request->told; }
 
+/* Whether the program freed the communicator of a persistent request. In another window its next start couldn't
+ * name it. */
+static bool may_start_on_freed(void) {
+    size_t place = 0;
+    for (const Request *one; (one = requests_next_persistent(&place));)
+        if (!is_had(one->template->fields[0]))
+            return true;
+    return false;
+}
+
 /* What isn't known, or can't go on in another window. */
 static bool has_doubts(void) {
     int count;
-    const Request **active = requests_active(&count);
-    bool found = !active || in_doubt || !recording || holds_messages();
+    Request **active = requests_active(&count);
+    bool found = !active || in_doubt || !recording || holds_messages() || may_start_on_freed();
     for (int i = 0; i < count && !found; i++) {
         const Request *one = active[i];
         bool is_lost = goes_on(one) && !is_had(one->receive.comm);
@@ -107,8 +121,10 @@ static int number_of_receive(const Request *request) {
     return request->second ? request->second : request->number;
 }
 
-static void put_start(const Request *request) {
+static void put_start(Request *request) {
     Receive wanted = request->receive;
+    request->number = new_number();
+    request->second = request->second ? new_number() : 0;
     if (!wanted.is_there || request->second)
         journal_call("isend", FIELDS(request->number, WORLD, NULL_PEER, 0), request->site);
     if (goes_on(request))
@@ -121,7 +137,7 @@ static void put_start(const Request *request) {
 /* The requests that are active go on in the next window. */
 static void cut(void) {
     int count;
-    const Request **active = requests_active(&count);
+    Request **active = requests_active(&count);
     cut_at = journal_lines();
     if (!active)
         journal_stop("there is no memory for its requests");
@@ -134,6 +150,7 @@ static void cut(void) {
             journal_report("=moved", FIELDS(number_of_receive(active[i])));
     journal_cut();
     report_communicators();
+    restart_numbers();
     for (int i = 0; i < count && recording; i++)
         put_start(active[i]);
     free(active);
@@ -154,19 +171,20 @@ static void note_why(const uint64_t sums[3]) {
 static void plan_next(Meetings *here, unsigned long lines) {
     unsigned long a_call = lines / here->period, calls = wanted / EXCHANGES / (a_call ? a_call : 1);
     calls = calls > 2 * here->period ? 2 * here->period : calls;
+    calls = calls > MOST_CALLS ? MOST_CALLS : calls;
     here->left = here->period = calls ? calls : 1;
     here->lines = journal_lines();
 }
 
 static void exchange(Meetings *here) {
     unsigned long now = journal_lines();
-    uint64_t sums[] = {sum_of_messages(), sum_of_waves(), has_doubts()}, all[3];
-    uint64_t lines[] = {now - cut_at, now - here->lines, journal_is_full}, most[3];
-    CALL(Allreduce, (sums, all, 3, MPI_UINT64_T, MPI_SUM, own));
+    uint64_t lines[] = {now - cut_at, now - here->lines, journal_is_full}, most[3], all[3];
     CALL(Allreduce, (lines, most, 3, MPI_UINT64_T, MPI_MAX, own));
     plan_next(here, most[1]);
     if (most[0] < wanted || most[2])
         return;
+    uint64_t sums[] = {sum_of_messages(), sum_of_waves(), has_doubts()};
+    CALL(Allreduce, (sums, all, 3, MPI_UINT64_T, MPI_SUM, own));
     if (all[0] || all[1] || all[2])
         note_why(all);
     else

@@ -80,6 +80,10 @@ is_possible() {
         # A plugin that Open MPI's calls go to directly can't be loaded: Open MPI is loaded twice then.
         [[ $1 == mpich ]]
         ;;
+    init-twice)
+        # A second MPI_Init ends the program, whatever its error handler is.
+        [[ $1 == mpich ]]
+        ;;
     failed-*)
         # Open MPI 4 has no MPI_Isendrecv, and its MPI_Waitall doesn't say that this receive was too short.
         [[ $1 == mpich ]]

@@ -264,9 +264,10 @@ try_unrecorded() {
 # The ranks' own journals, where there is so much room for them.
 record_into() {
     local library=$1 folder=$2
+    shift 2
     status=0
     timeout 120 env LD_PRELOAD="$here/record/out/$library/record.so" MPIWAIT_JOURNAL="$folder" \
-        "${command[@]}" >"$work/said" 2>"$work/errors" </dev/null || status=$?
+        "${command[@]}" "$@" >"$work/said" 2>"$work/errors" </dev/null || status=$?
 }
 
 try_no_room() {
@@ -319,6 +320,17 @@ try_no_memory() {
             fails "$name: status $status"
         fi
     done
+}
+
+# Signals of the program interrupt what reserves room on the disk.
+try_interrupts() {
+    local library=$1 name="$1: a signal while room is reserved"
+    prepare "$library" many-wildcards.c 1
+    compile "mpicc.$library" -shared -fPIC -o "$work/interrupts.so" interrupts.c -ldl
+    LD_PRELOAD=$work/interrupts.so run_with --window 0 "${command[@]}"
+    check_journals "$name"
+    expect_status "$name" 5
+    ! grep -q 'no room' "$work/errors" || fails "$name: the recording stopped"
 }
 
 # A journal has at most 32 bytes for each line, and nothing is added after the last call line.

@@ -85,6 +85,33 @@ try_random_windows() {
         "are unfinished, $right ended"
 }
 
+# A freed communicator isn't in the next window; while persistent requests may be started on it there is none.
+try_freed() {
+    local library=$1
+    prepare "$library" windows-freed.c 3
+    run_with --window 300 --for 60 "${command[@]}" inside
+    expect_windows "$library: windows-freed.c inside" 0 2 'verdict free'
+    run_with --window 300 --for 60 "${command[@]}" persistent
+    expect_windows "$library: windows-freed.c persistent" 0 0 'moments without a cut: calls failed'
+}
+
+# Each window numbers its requests anew, so that no run has too many of them.
+try_numbers() {
+    local name="$1: windows.c, numbers of requests" most
+    prepare "$1" windows.c 3
+    run_with --window 600 --keep "${command[@]}" 400
+    expect_windows "$name" 0 2 'verdict free'
+    most=$(cat -- "$work/run/journal"/[0-9]*/journal0 | tr -d '\0' | sed -n 's/^i[a-z]* \([0-9]*\) .*/\1/p' | sort -n | tail -n 1)
+    ((most < 1200)) || fails "$name: $most"
+}
+
+# Much more may be called between two barriers than before.
+try_phases() {
+    prepare "$1" phases.c 2
+    run_with --for 100 "${command[@]}" 60000 200 8000
+    expect_windows "$1: phases.c" 0 2 'verdict free'
+}
+
 # A rank that is recorded no further exchanges all the same.
 try_closed_journal() {
     local name="$1: windows.c closes"
@@ -179,12 +206,27 @@ try_never_clean() {
     fi
 }
 
+# A communicator takes no longer to make the more were made before. Only MPICH makes them so fast that it shows.
+try_many_communicators() {
+    local library=$1 way
+    [[ $library == mpich ]] || return 0
+    for way in '' group; do
+        prepare "$library" many-communicators.c 2
+        rm -rf -- "$work/many"
+        mkdir -- "$work/many"
+        # shellcheck disable=SC2086
+        MPIWAIT_WINDOW=200000 record_into "$library" "$work/many" $way
+        expect_line "$library: many-communicators.c $way" 0 ' s, and ' 'none takes longer than before'
+    done
+}
+
 try_windows_large() {
     knows_windows || { echo "$1: windows-large: passed over: the checker knows none"; return; }
     prepare "$1" windows.c 4
     try_long_runs "$1"
     try_head_in_a_window "$1"
     try_never_clean "$1"
+    try_many_communicators "$1"
 }
 
 try_windows() {
@@ -213,5 +255,8 @@ try_windows() {
     try_asked_window "$library"
     try_closed_journal "$library"
     try_unrecorded_window "$library"
+    try_freed "$library"
+    try_phases "$library"
+    try_numbers "$library"
     try_random_windows "$library"
 }
