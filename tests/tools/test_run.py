@@ -356,6 +356,8 @@ class Processes(unittest.TestCase):
         self.assertIn("ended after 0.3 seconds", said.getvalue())
 
     def test_signals_end_the_command_and_not_the_script(self):
+        # A test run under nohup has a hangup ignored.
+        self.addCleanup(signal.signal, signal.SIGHUP, signal.signal(signal.SIGHUP, signal.SIG_DFL))
         for number in (signal.SIGTERM, signal.SIGHUP):
             words = ["sh", "-c", f"kill -{int(number)} {os.getpid()}; sleep 60"]
             self.assertTrue(watching.run_command(words, None)[1])

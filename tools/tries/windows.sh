@@ -101,7 +101,8 @@ try_numbers() {
     prepare "$1" windows.c 3
     run_with --window 600 --keep "${command[@]}" 400
     expect_windows "$name" 0 2 'verdict free'
-    most=$(cat -- "$work/run/journal"/[0-9]*/journal0 | tr -d '\0' | sed -n 's/^i[a-z]* \([0-9]*\) .*/\1/p' | sort -n | tail -n 1)
+    most=$(cat -- "$work/run/journal"/[0-9]*/journal0 | tr -d '\0' |
+        sed -n 's/^i[a-z]* \([0-9]*\) .*/\1/p' | sort -n | tail -n 1)
     ((most < 1200)) || fails "$name: $most"
 }
 
@@ -206,7 +207,8 @@ try_never_clean() {
     fi
 }
 
-# A communicator takes no longer to make the more were made before. Only MPICH makes them so fast that it shows.
+# A communicator takes no longer to make the more were made before. Only MPICH makes them so fast that it
+# shows.
 try_many_communicators() {
     local library=$1 way
     [[ $library == mpich ]] || return 0
