@@ -47,7 +47,7 @@ try_signals() {
         name="$library: SIG$signal to tools/run"
         rm -rf -- "$work/run"
         prepare "$library" large-messages.c 2
-        env --default-signal=INT "$here/run" --folder "$work/run" "${command[@]}" \
+        env --default-signal=INT,HUP "$here/run" --folder "$work/run" "${command[@]}" \
             >"$work/said" 2>&1 </dev/null &
         running=$!
         wait_until has_begun || fails "$name: the run didn't begin"
