@@ -296,9 +296,9 @@ int MPI_Wait(MPI_Request *handle, MPI_Status *status) {
 }
 ALSO_PMPI(Wait)
 
-int MPI_Waitall(int count, MPI_Request handles[], MPI_Status statuses[]) {
+static int wait_for_all(bool begun, int count, MPI_Request handles[], MPI_Status statuses[]) {
     Asked asked;
-    ask(&asked, BEGINS, count, handles);
+    ask(&asked, begun, count, handles);
     asked.is_for_all = true;
     MPI_Status *place = place_for(&asked, statuses, MPI_STATUSES_IGNORE);
     if (asked.named)
@@ -309,7 +309,25 @@ int MPI_Waitall(int count, MPI_Request handles[], MPI_Status statuses[]) {
         finish_all(&asked, count, NULL);
     else if (is_back(&asked))
         sort_out(&asked, result, handles);
-    return done(&asked, result);
+    free(asked.memory);
+    return result;
+}
+
+/* A line has room for the numbers of MOST_ASKED requests. A wait for more is one for each part of them, so
+ * that the last line names requests for which the rank waits. After an error the later ones are pending. */
+int MPI_Waitall(int count, MPI_Request handles[], MPI_Status statuses[]) {
+    bool begun = BEGINS, has_statuses = statuses != MPI_STATUSES_IGNORE;
+    int result, from = 0;
+    do {
+        int part = begun && count - from > MOST_ASKED ? MOST_ASKED : count - from;
+        if (from > 0 && is_recorded())
+            journal_begin();
+        result = wait_for_all(begun, part, &handles[from], has_statuses ? &statuses[from] : statuses);
+        from += part;
+    } while (from < count && result == MPI_SUCCESS);
+    for (; has_statuses && from < count; from++)
+        statuses[from].MPI_ERROR = MPI_ERR_PENDING;
+    return over(result);
 }
 ALSO_PMPI(Waitall)
 
