@@ -91,18 +91,27 @@ char *map_text(int file, long start, unsigned long size) {
 
 /* ---- Lines ------------------------------------------------------------------------------------- */
 
+/* The numbers from 00 to 99, since a division costs more than anything else here. */
+static const char pairs[] = "00010203040506070809101112131415161718192021222324"
+                            "25262728293031323334353637383940414243444546474849"
+                            "50515253545556575859606162636465666768697071727374"
+                            "75767778798081828384858687888990919293949596979899";
+
+static char *put_digits_of(char *at, unsigned long long number) {
+    if (number < 10) {
+        *at = '0' + number;
+        return at + 1;
+    }
+    if (number >= 100)
+        at = put_digits_of(at, number / 100);
+    memcpy(at, &pairs[2 * (number % 100)], 2);
+    return at + 2;
+}
+
 static char *put_number(char *at, long long number) {
-    char digits[24];
-    int count = 0;
     if (number < 0)
         *at++ = '-';
-    unsigned long long rest = number < 0 ? -(unsigned long long)number : (unsigned long long)number;
-    do
-        digits[count++] = '0' + rest % 10;
-    while (rest /= 10);
-    while (count > 0)
-        *at++ = digits[--count];
-    return at;
+    return put_digits_of(at, number < 0 ? -(unsigned long long)number : (unsigned long long)number);
 }
 
 static char *put_field(char *at, Field field) {
