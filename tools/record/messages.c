@@ -5,12 +5,12 @@
 
 const char unnumbered[] = "sends, receives and probes on communicators that have no number";
 
-/* For a wrong type or count the call itself returns an error. */
+/* For a wrong type or count the call itself returns an error. Multiplied, since a division costs more. */
 Field bytes(long long count, MPI_Datatype type) {
     int size;
     if (type == MPI_DATATYPE_NULL || !is_recorded() || REAL(Type_size)(type, &size) != MPI_SUCCESS)
         return UNKNOWN;
-    if (size == MPI_UNDEFINED || count < 0 || (size > 0 && count > INT_MAX / size))
+    if (size == MPI_UNDEFINED || count < 0 || (size > 0 && (count > INT_MAX || count * size > INT_MAX)))
         return UNKNOWN;
     return count * size;
 }
