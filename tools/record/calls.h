@@ -153,6 +153,12 @@ void restart_numbers(void);
  * filled in, or NULL if the recording stopped. */
 Request *started(MPI_Request *handle, int number);
 
+/* Completed requests of the recorder's own (starts.c), which the library needn't wait for. A wait for one is
+ * over: its status is given, unless there is none. Its error is set if the wait may be for several. */
+MPI_Request handle_of(const struct Done *done);
+void waited_for(struct Done *done, MPI_Status *status, bool has_error);
+void free_unused_requests(void);
+
 /* Whether a probe took a message that isn't received yet. */
 bool holds_messages(void);
 

@@ -203,6 +203,7 @@ int MPI_Finalize(void) {
         journal_call("finalize", 0, NULL, site());
         journal_close();
         recording = false;
+        free_unused_requests();
     }
     return over(CALL(Finalize, ()));
 }

@@ -38,6 +38,7 @@ typedef struct {
     Template *template;     /* of a persistent one that is recorded */
     uintptr_t comm;         /* the communicator that it makes, if that is known yet */
     const void *place;      /* else the program's variable that will have it */
+    struct Done *done;      /* the completed request of the recorder's own that it is (starts.c), or NULL */
     uint64_t origin;        /* of that communicator (sums.h) */
     uint64_t sent, message; /* what its send, or the message that it takes, adds to the sum of messages */
     Receive receive;        /* of itself, or of its second half */
