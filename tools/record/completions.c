@@ -189,10 +189,11 @@ static void settle(Request *request, const MPI_Status *status) {
 }
 
 /* A request is no longer in use. A persistent one may be started again. */
-static void drop(uintptr_t handle) {
-    Request *request = requests_find(handle);
-    if (!request || !request->persistent) {
-        requests_remove(handle);
+static void drop(Request *request) {
+    if (!request)
+        return;
+    if (!request->persistent) {
+        requests_remove(request);
         return;
     }
     request_closes(request);
@@ -216,7 +217,7 @@ static void finish(uintptr_t handle, const MPI_Status *status, bool failed) {
         settle(request, status);
     MPI_Comm made = made_by(request);
     uint64_t origin = request->origin;
-    drop(handle);
+    drop(request);
     if (number && made != MPI_COMM_NULL && !failed)
         adopt_duplicate(number, made, origin);
 }
@@ -240,7 +241,7 @@ static void sort_out(const Asked *asked, int result, const MPI_Request handles[]
         if (is_known && asked->place[i].MPI_ERROR == MPI_SUCCESS)
             finish(asked->requests[i].handle, &asked->place[i], true);
         else if (asked->requests[i].handle != 0 && bits(handles[i]) == 0)
-            drop(asked->requests[i].handle);
+            drop(requests_find(asked->requests[i].handle));
     }
 }
 

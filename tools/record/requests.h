@@ -50,7 +50,7 @@ Request *requests_find(uintptr_t handle);
 
 /* A request with a new handle, or NULL if there is no memory. */
 Request *requests_add(uintptr_t handle);
-void requests_remove(uintptr_t handle);
+void requests_remove(Request *request);
 
 /* The active ones that have a number, in the order in which they were started; NULL without memory. */
 Request **requests_active(int *count);

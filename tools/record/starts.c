@@ -162,8 +162,9 @@ int MPI_Request_free(MPI_Request *handle) {
         put_each("request_free", request);
     in_doubt = in_doubt || (request && is_unknown(request));
     int result = CALL(Request_free, (handle));
-    if (freed && is_recorded() && result == MPI_SUCCESS)
-        requests_remove(freed);
+    request = is_recorded() && result == MPI_SUCCESS ? requests_find(freed) : NULL;
+    if (request)
+        requests_remove(request);
     return over(result);
 }
 ALSO_PMPI(Request_free)
