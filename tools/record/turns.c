@@ -7,7 +7,7 @@
 #include "calls.h"
 #include "bypasses.h"
 #include "modules.h"
-#include <pthread.h>
+#include <time.h>
 
 /* What this thread is doing: how many functions of the recorder it is inside, since a library's calls of its
  * own aren't the program's; the frame and the caller of the outermost one; its present or last turn; and the
@@ -20,21 +20,31 @@ static struct {
     bool is_of_first; /* the thread of MPI_Init has the turn */
 } turn;
 
-enum { NEAR = 1 << 16 };
+enum { NEAR = 1 << 16, BUSY_LOOKS = 1000, A_MOMENT = 20000 };
 
-static pthread_mutex_t lock = PTHREAD_MUTEX_INITIALIZER;
-static pthread_t first;
+/* The recorder's lock. It opens by a mere store, since a mutex would double what it costs. So nobody can be
+ * woken then, and a thread that waits for it looks again and again: it is held for a moment only. */
+static bool is_taken;
+
+static const Thread *first; /* of the thread of MPI_Init */
 static bool several; /* MPI_THREAD_MULTIPLE: threads may call at once */
 static bool alone;   /* they did: from then on only calls of the thread of MPI_Init are recorded */
 
+static bool try_lock(void) {
+    if (__atomic_load_n(&is_taken, __ATOMIC_RELAXED) || __atomic_exchange_n(&is_taken, true, __ATOMIC_ACQUIRE))
+        return false;
+    return own.is_locked = true;
+}
+
 static void take_lock(void) {
-    pthread_mutex_lock(&lock);
-    own.is_locked = true;
+    for (int looks = 0; !try_lock(); looks++)
+        if (looks > BUSY_LOOKS)
+            clock_nanosleep(CLOCK_MONOTONIC, 0, &(struct timespec){.tv_nsec = A_MOMENT}, NULL);
 }
 
 static void give_lock(void) {
     own.is_locked = false;
-    pthread_mutex_unlock(&lock);
+    __atomic_store_n(&is_taken, false, __ATOMIC_RELEASE);
 }
 
 static bool has_turn(void) {
@@ -61,13 +71,12 @@ int site(void) {
 
 void turns_open(int level) {
     several = level == MPI_THREAD_MULTIPLE;
-    first = pthread_self();
+    first = &own;
 }
 
 bool last_turn_begins(void) {
-    if (own.is_locked || pthread_mutex_trylock(&lock) != 0)
+    if (own.is_locked || !try_lock())
         return false;
-    own.is_locked = true;
     if (recording && turn.now == 0)
         return true;
     give_lock();
@@ -102,7 +111,7 @@ static void two_at_once(void) {
 }
 
 static bool may_have_turn(void) {
-    bool is_first = pthread_equal(pthread_self(), first);
+    bool is_first = &own == first;
     if (turn.now != 0 && turn.now != own.turn && !(alone && !is_first))
         two_at_once();
     if (alone && !is_first)
@@ -119,7 +128,7 @@ bool take_turn(void) {
         return false;
     }
     own.turn = turn.now = ++turn.last;
-    turn.is_of_first = pthread_equal(pthread_self(), first);
+    turn.is_of_first = &own == first;
     own.site = -1;
     journal_begin();
     return true;
@@ -220,10 +229,9 @@ bool take_barrier(MPI_Comm *comm) {
 /* Takes the lock while this thread has the turn. It doesn't block on the lock: its owner may wait for
  * something that this thread holds inside MPI. */
 static bool take_lock_of_turn(void) {
-    while (!own.is_locked && pthread_mutex_trylock(&lock) != 0)
+    while (!own.is_locked && !try_lock())
         if (!has_turn())
             return false;
-    own.is_locked = true;
     return has_turn();
 }
 
