@@ -87,6 +87,8 @@ static void look_at_unbound(void) {
 
 /* ---- Modules ----------------------------------------------------------------------------------- */
 
+enum { LEAST_TICKS = 4096 }; /* of the processor: a module takes longer */
+
 static unsigned long long loaded, unloaded; /* how many modules were loaded so far, and unloaded */
 static int first_count, seen;               /* modules at the beginning; modules that a search came to */
 
@@ -153,8 +155,26 @@ static int has_changed(struct dl_phdr_info *module, size_t size, void *changed) 
     return 1;
 }
 
+/* Whether so little time has passed since the last look that no module was loaded since: that takes many calls
+ * of the system, and this time isn't enough for one or two. The look costs more than to read the clock. */
+#if defined __x86_64__ || defined __i386__
+static bool is_soon(void) {
+    static unsigned long long last;
+    unsigned long long now = __builtin_ia32_rdtsc();
+    if (now - last < LEAST_TICKS)
+        return true;
+    last = now;
+    return false;
+}
+#else
+static bool is_soon(void) { return false; }
+#endif
+
+/* Functions that aren't bound yet may be bound in less time. */
 void find_new_bypasses(void) {
     bool changed = false;
+    if (unbound_count == 0 && is_soon())
+        return;
     dl_iterate_phdr(has_changed, &changed);
     if (!changed)
         return;
