@@ -81,10 +81,26 @@ static int reserve(int file, long start, unsigned long size) {
     return result;
 }
 
+/* The system maps many pages at once if it has them in memory. Else it makes each one when its first byte is
+ * written, which takes three times as long. Nothing is lost where this fails. */
+static void put_zeros(int file, off_t from, off_t end) {
+    static char zeros[1 << 16];
+    while (from < end) {
+        size_t part = end - from < (off_t)sizeof zeros ? (size_t)(end - from) : sizeof zeros;
+        ssize_t put = pwrite(file, zeros, part, from);
+        if (put <= 0)
+            return;
+        from += put;
+    }
+}
+
 /* Room on the disk is reserved first: a write into mapped memory can't return an error. */
 char *map_text(int file, long start, unsigned long size) {
+    off_t had = lseek(file, 0, SEEK_END);
     if (!may_have(start + size) || reserve(file, start, size) != 0)
         return NULL;
+    if (had >= 0)
+        put_zeros(file, had < start ? start : had, start + size);
     char *place = mmap(NULL, size, PROT_READ | PROT_WRITE, MAP_SHARED, file, start);
     return place == MAP_FAILED ? NULL : place;
 }
