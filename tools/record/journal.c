@@ -113,15 +113,22 @@ static const char pairs[] = "00010203040506070809101112131415161718192021222324"
                             "50515253545556575859606162636465666768697071727374"
                             "75767778798081828384858687888990919293949596979899";
 
+static char *put_two(char *at, unsigned number) { return (char *)memcpy(at, &pairs[2 * number], 2) + 2; }
+
+static char *put_one_or_two(char *at, unsigned number) {
+    if (number >= 10)
+        return put_two(at, number);
+    *at = '0' + number;
+    return at + 1;
+}
+
 static char *put_digits_of(char *at, unsigned long long number) {
-    if (number < 10) {
-        *at = '0' + number;
-        return at + 1;
-    }
-    if (number >= 100)
-        at = put_digits_of(at, number / 100);
-    memcpy(at, &pairs[2 * (number % 100)], 2);
-    return at + 2;
+    unsigned last = number % 10000;
+    if (number < 100)
+        return put_one_or_two(at, last);
+    at = number < 10000 ? put_one_or_two(at, last / 100)
+                        : put_two(put_digits_of(at, number / 10000), last / 100);
+    return put_two(at, last % 100);
 }
 
 static char *put_number(char *at, long long number) {
@@ -130,7 +137,7 @@ static char *put_number(char *at, long long number) {
     return put_digits_of(at, number < 0 ? -(unsigned long long)number : (unsigned long long)number);
 }
 
-static char *put_field(char *at, Field field) {
+static char *put_long_field(char *at, Field field) {
     switch (field) {
     case UNKNOWN: return at;
     case NULL_PEER: return stpcpy(at, " null");
@@ -138,6 +145,15 @@ static char *put_field(char *at, Field field) {
     case UNDEFINED: return stpcpy(at, " undefined");
     default: *at++ = ' '; return put_number(at, field);
     }
+}
+
+/* Most fields have one digit. */
+static inline char *put_field(char *at, Field field) {
+    if (field < 0 || field > 9)
+        return put_long_field(at, field);
+    at[0] = ' ';
+    at[1] = '0' + field;
+    return at + 2;
 }
 
 static off_t place(void) { return journal.start + (journal.at - journal.window); }
