@@ -9,6 +9,7 @@
 #include "bypasses.h"
 #include "calls.h"
 #include "modules.h"
+#include "sites.h"
 #include <stdio.h>
 #include <string.h>
 
@@ -155,8 +156,8 @@ static int has_changed(struct dl_phdr_info *module, size_t size, void *changed) 
     return 1;
 }
 
-/* Whether so little time has passed since the last look that no module was loaded since: that takes many calls
- * of the system, and this time isn't enough for one or two. The look costs more than to read the clock. */
+/* Whether the last look was so short a time ago that no module can have been loaded since: that takes ten
+ * calls of the system and more. To look costs more than to read this clock. */
 #if defined __x86_64__ || defined __i386__
 static bool is_soon(void) {
     static unsigned long long last;
@@ -179,6 +180,7 @@ void find_new_bypasses(void) {
     if (!changed)
         return;
     forget_owners();
+    forget_sites();
     find_bypasses();
 }
 
