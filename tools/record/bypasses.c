@@ -9,6 +9,7 @@
 #include "bypasses.h"
 #include "calls.h"
 #include "modules.h"
+#include "sites.h"
 #include <stdio.h>
 #include <string.h>
 
@@ -87,6 +88,8 @@ static void look_at_unbound(void) {
 
 /* ---- Modules ----------------------------------------------------------------------------------- */
 
+enum { LEAST_TICKS = 4096 }; /* of the processor: a module takes longer */
+
 static unsigned long long loaded, unloaded; /* how many modules were loaded so far, and unloaded */
 static int first_count, seen;               /* modules at the beginning; modules that a search came to */
 
@@ -153,12 +156,31 @@ static int has_changed(struct dl_phdr_info *module, size_t size, void *changed) 
     return 1;
 }
 
+/* Whether the last look was so short a time ago that no module can have been loaded since: that takes ten
+ * calls of the system and more. To look costs more than to read this clock. */
+#if defined __x86_64__ || defined __i386__
+static bool is_soon(void) {
+    static unsigned long long last;
+    unsigned long long now = __builtin_ia32_rdtsc();
+    if (now - last < LEAST_TICKS)
+        return true;
+    last = now;
+    return false;
+}
+#else
+static bool is_soon(void) { return false; }
+#endif
+
+/* Functions that aren't bound yet may be bound in less time. */
 void find_new_bypasses(void) {
     bool changed = false;
+    if (unbound_count == 0 && is_soon())
+        return;
     dl_iterate_phdr(has_changed, &changed);
     if (!changed)
         return;
     forget_owners();
+    forget_sites();
     find_bypasses();
 }
 

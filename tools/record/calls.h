@@ -48,6 +48,23 @@ void *found_in_library(const char *name);
 
 /* ---- Turns ------------------------------------------------------------------------------------- */
 
+/* What a thread is doing: how many functions of the recorder it is inside, since a library's calls of its own
+ * aren't the program's; the frame and the caller of the outermost one; its present or last turn; and the site
+ * of the call, -1 until it is looked up. */
+typedef struct {
+    int inside;
+    bool is_locked;
+    void **frame, *caller;
+    unsigned long turn;
+    int site;
+    bool has_barrier;
+    MPI_Comm barrier;
+} Thread;
+extern __thread Thread thread __attribute__((tls_model("initial-exec")));
+
+/* Which turn it is; 0 for none. */
+extern unsigned long turn_now;
+
 /* Each function of the recorder begins with BEGINS and ends with `over`. A recorded call has the turn between
  * the two. It also has the recorder's lock, except inside MPI. So recorded calls of several threads come one
  * after the other, and only one thread writes and looks up. A call inside another call isn't the program's.
@@ -64,7 +81,7 @@ bool begins_quietly(void *caller, void *frame);
 bool take_turn(void);
 
 /* Whether the program called, and not MPI. */
-bool is_of_program(void);
+static inline bool is_of_program(void) { return thread.inside == 1; }
 
 /* Whether another thread is inside a recorded call. */
 bool another_calls(void);
@@ -73,8 +90,12 @@ bool another_calls(void);
 void want_barrier(MPI_Comm comm);
 bool take_barrier(MPI_Comm *comm);
 
+static inline bool has_turn(void) {
+    return thread.turn != 0 && __atomic_load_n(&turn_now, __ATOMIC_RELAXED) == thread.turn;
+}
+
 /* Whether the call is still recorded. */
-bool is_recorded(void);
+static inline bool is_recorded(void) { return is_of_program() && has_turn(); }
 
 /* Whether it is, no other thread can complete a request meanwhile, and what is written now stays. */
 bool may_ask(void);
@@ -95,20 +116,15 @@ void enter_recorder(void);
 int over(int result);
 
 /* An error handler of the program is called. It may never return. */
-typedef struct {
-    int inside;
-    bool is_locked;
-    void **frame, *caller;
-    unsigned long turn;
-    int site;
-    bool has_barrier;
-    MPI_Comm barrier;
-} Thread;
 Thread leave_by_error(void);
 void come_back_to_error(Thread before);
 
 /* The site of the call. */
-int site(void);
+static inline int site(void) {
+    if (thread.site < 0)
+        thread.site = site_of(thread.caller, thread.frame);
+    return thread.site;
+}
 
 /* From MPI_Init on. */
 void turns_open(int level);
@@ -152,6 +168,12 @@ void restart_numbers(void);
 /* A call started a request; its number is 0 if the call has no line. Answers its entry in the table, to be
  * filled in, or NULL if the recording stopped. */
 Request *started(MPI_Request *handle, int number);
+
+/* Completed requests of the recorder's own (starts.c), which the library needn't wait for. A wait for one is
+ * over: its status is given, unless there is none. Its error is set if the wait may be for several. */
+MPI_Request handle_of(const struct Done *done);
+void waited_for(struct Done *done, MPI_Status *status, bool has_error);
+void free_unused_requests(void);
 
 /* Whether a probe took a message that isn't received yet. */
 bool holds_messages(void);

@@ -9,6 +9,7 @@ enum { FEW = 64, MOST_ASKED = MOST_FIELDS / 2 };
 typedef struct {
     uintptr_t handle;
     int number, second; /* 0 where it isn't active or has none */
+    struct Done *done;  /* a completed request of the recorder's own; else NULL */
 } Named;
 
 /* The line that a wait for one or some requests writes before it returns. */
@@ -21,8 +22,10 @@ typedef struct {
     bool has_others;    /* it waits for active requests of calls that aren't recorded */
     int named, pairs;   /* how many of its requests are active; how many of these both send and receive */
     int open;           /* how many are open (requests.h) */
+    int dones;          /* how many are completed ones of the recorder's own */
     Line line;
-    MPI_Status *place; /* where its statuses go */
+    bool has_place;    /* its statuses go somewhere */
+    MPI_Status *place; /* where */
     bool is_for_all;   /* there is a status for each request, in their order */
     Named *requests;
     Field *packed;
@@ -62,6 +65,8 @@ static void look_at(Asked *asked, Named *named) {
     }
     named->number = request->number;
     named->second = request->second;
+    named->done = request->done;
+    asked->dones += request->done != NULL;
     asked->named++;
     asked->pairs += request->second != 0;
     asked->open += request->open;
@@ -72,7 +77,7 @@ static void ask(Asked *asked, bool begun, int count, const MPI_Request handles[]
     asked->begun = begun;
     asked->count = count;
     asked->needed = asked->has_others = asked->is_for_all = false;
-    asked->named = asked->pairs = asked->open = 0;
+    asked->named = asked->pairs = asked->open = asked->dones = 0;
     asked->line = NO_LINE;
     asked->memory = NULL;
     if (begun && !make_room(asked)) {
@@ -88,7 +93,9 @@ static void ask(Asked *asked, bool begun, int count, const MPI_Request handles[]
 
 /* The statuses go where the program wants them, or into ours if the program ignores them and we need them. */
 static MPI_Status *place_for(Asked *asked, MPI_Status *theirs, const MPI_Status *none) {
-    return asked->place = asked->needed && theirs == none ? asked->statuses : theirs;
+    asked->place = asked->needed && theirs == none ? asked->statuses : theirs;
+    asked->has_place = asked->place != none;
+    return asked->place;
 }
 
 /* Whether the call is still recorded, now that it has returned. */
@@ -182,10 +189,11 @@ static void settle(Request *request, const MPI_Status *status) {
 }
 
 /* A request is no longer in use. A persistent one may be started again. */
-static void drop(uintptr_t handle) {
-    Request *request = requests_find(handle);
-    if (!request || !request->persistent) {
-        requests_remove(handle);
+static void drop(Request *request) {
+    if (!request)
+        return;
+    if (!request->persistent) {
+        requests_remove(request);
         return;
     }
     request_closes(request);
@@ -209,7 +217,7 @@ static void finish(uintptr_t handle, const MPI_Status *status, bool failed) {
         settle(request, status);
     MPI_Comm made = made_by(request);
     uint64_t origin = request->origin;
-    drop(handle);
+    drop(request);
     if (number && made != MPI_COMM_NULL && !failed)
         adopt_duplicate(number, made, origin);
 }
@@ -233,7 +241,7 @@ static void sort_out(const Asked *asked, int result, const MPI_Request handles[]
         if (is_known && asked->place[i].MPI_ERROR == MPI_SUCCESS)
             finish(asked->requests[i].handle, &asked->place[i], true);
         else if (asked->requests[i].handle != 0 && bits(handles[i]) == 0)
-            drop(asked->requests[i].handle);
+            drop(requests_find(asked->requests[i].handle));
     }
 }
 
@@ -259,6 +267,30 @@ static void none_active(Asked *asked) {
         journal_call("test", all - chosen, asked->packed + chosen, site());
     for (int i = 0; i < asked->count; i++)
         finish(asked->requests[i].handle, NULL, false);
+}
+
+/* ---- Completed requests of the recorder's own -------------------------------------------------- */
+
+/* The library isn't asked to wait for those: it would free them, and so they can serve again. */
+static void take_out(const Asked *asked, MPI_Request handles[]) {
+    for (int i = 0; asked->dones && i < asked->count; i++)
+        if (asked->requests[i].done)
+            handles[i] = MPI_REQUEST_NULL;
+}
+
+/* If the library refused the call, the program has them still. */
+static void put_back(const Asked *asked, int result, MPI_Request handles[]) {
+    int class = MPI_SUCCESS;
+    if (result != MPI_SUCCESS)
+        REAL(Error_class)(result, &class);
+    for (int i = 0; asked->dones && i < asked->count; i++) {
+        struct Done *done = asked->requests[i].done;
+        MPI_Status *status = asked->has_place ? &asked->place[i] : NULL;
+        if (done && class != MPI_SUCCESS && class != MPI_ERR_IN_STATUS)
+            handles[i] = handle_of(done);
+        else if (done)
+            waited_for(done, status, asked->is_for_all);
+    }
 }
 
 /* ---- Waits ------------------------------------------------------------------------------------- */
@@ -287,7 +319,9 @@ int MPI_Wait(MPI_Request *handle, MPI_Status *status) {
     if (asked.named)
         put_list("wait", &asked, 1, NULL);
     linger(&asked, false);
+    take_out(&asked, handle);
     int result = CALL(Wait, (handle, place));
+    put_back(&asked, result, handle);
     if (is_back(&asked) && result == MPI_SUCCESS)
         finish_all(&asked, 1, NULL);
     else if (is_back(&asked))
@@ -304,7 +338,9 @@ static int wait_for_all(bool begun, int count, MPI_Request handles[], MPI_Status
     if (asked.named)
         put_list("wait", &asked, count, NULL);
     linger(&asked, false);
+    take_out(&asked, handles);
     int result = CALL(Waitall, (count, handles, place));
+    put_back(&asked, result, handles);
     if (is_back(&asked) && result == MPI_SUCCESS)
         finish_all(&asked, count, NULL);
     else if (is_back(&asked))

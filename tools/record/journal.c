@@ -81,31 +81,63 @@ static int reserve(int file, long start, unsigned long size) {
     return result;
 }
 
+/* The system maps many pages at once if it has them in memory. Else it makes each one when its first byte is
+ * written, which takes three times as long. Nothing is lost where this fails. */
+static void put_zeros(int file, off_t from, off_t end) {
+    static char zeros[1 << 16];
+    while (from < end) {
+        size_t part = end - from < (off_t)sizeof zeros ? (size_t)(end - from) : sizeof zeros;
+        ssize_t put = pwrite(file, zeros, part, from);
+        if (put <= 0)
+            return;
+        from += put;
+    }
+}
+
 /* Room on the disk is reserved first: a write into mapped memory can't return an error. */
 char *map_text(int file, long start, unsigned long size) {
+    off_t had = lseek(file, 0, SEEK_END);
     if (!may_have(start + size) || reserve(file, start, size) != 0)
         return NULL;
+    if (had >= 0)
+        put_zeros(file, had < start ? start : had, start + size);
     char *place = mmap(NULL, size, PROT_READ | PROT_WRITE, MAP_SHARED, file, start);
     return place == MAP_FAILED ? NULL : place;
 }
 
 /* ---- Lines ------------------------------------------------------------------------------------- */
 
-static char *put_number(char *at, long long number) {
-    char digits[24];
-    int count = 0;
-    if (number < 0)
-        *at++ = '-';
-    unsigned long long rest = number < 0 ? -(unsigned long long)number : (unsigned long long)number;
-    do
-        digits[count++] = '0' + rest % 10;
-    while (rest /= 10);
-    while (count > 0)
-        *at++ = digits[--count];
-    return at;
+/* The numbers from 00 to 99, since a division costs more than anything else here. */
+static const char pairs[] = "00010203040506070809101112131415161718192021222324"
+                            "25262728293031323334353637383940414243444546474849"
+                            "50515253545556575859606162636465666768697071727374"
+                            "75767778798081828384858687888990919293949596979899";
+
+static char *put_two(char *at, unsigned number) { return (char *)memcpy(at, &pairs[2 * number], 2) + 2; }
+
+static char *put_one_or_two(char *at, unsigned number) {
+    if (number >= 10)
+        return put_two(at, number);
+    *at = '0' + number;
+    return at + 1;
 }
 
-static char *put_field(char *at, Field field) {
+static char *put_digits_of(char *at, unsigned long long number) {
+    unsigned last = number % 10000;
+    if (number < 100)
+        return put_one_or_two(at, last);
+    at = number < 10000 ? put_one_or_two(at, last / 100)
+                        : put_two(put_digits_of(at, number / 10000), last / 100);
+    return put_two(at, last % 100);
+}
+
+static char *put_number(char *at, long long number) {
+    if (number < 0)
+        *at++ = '-';
+    return put_digits_of(at, number < 0 ? -(unsigned long long)number : (unsigned long long)number);
+}
+
+static char *put_long_field(char *at, Field field) {
     switch (field) {
     case UNKNOWN: return at;
     case NULL_PEER: return stpcpy(at, " null");
@@ -113,6 +145,15 @@ static char *put_field(char *at, Field field) {
     case UNDEFINED: return stpcpy(at, " undefined");
     default: *at++ = ' '; return put_number(at, field);
     }
+}
+
+/* Most fields have one digit. */
+static inline char *put_field(char *at, Field field) {
+    if (field < 0 || field > 9)
+        return put_long_field(at, field);
+    at[0] = ' ';
+    at[1] = '0' + field;
+    return at + 2;
 }
 
 static off_t place(void) { return journal.start + (journal.at - journal.window); }

@@ -28,6 +28,9 @@ static inline bool is_standard(const char *word) {
     return strcmp(word, "send") == 0 || strcmp(word, "isend") == 0;
 }
 
+/* Learns the sizes of the types that come most, once MPI has begun. */
+void learn_sizes(void);
+
 /* The bytes of a message, or UNKNOWN. */
 Field bytes(long long count, MPI_Datatype type);
 

@@ -156,7 +156,7 @@ int site_of_python(void) {
     return site;
 }
 
-void find_python(void) {
+bool find_python(void) {
     python.is_there =
         FIND(is_initialized, "Py_IsInitialized") && FIND(has_lock, "PyGILState_Check") &&
         FIND(take_lock, "PyGILState_Ensure") && FIND(give_lock, "PyGILState_Release") &&
@@ -168,4 +168,5 @@ void find_python(void) {
         FIND(text, "PyUnicode_AsUTF8") && FIND(drop, "Py_DecRef");
     layout.is_other = !(python.is_there && FIND(version, "Py_GetVersion") && FIND(last, "PyFrame_GetLasti") &&
                         FIND(line_at, "PyCode_Addr2Line") && strncmp(python.version(), "3.11.", 5) == 0);
+    return python.is_there;
 }

@@ -17,6 +17,7 @@
 #define _GNU_SOURCE
 #include "calls.h"
 #include "bypasses.h"
+#include "messages.h"
 #include "modules.h"
 #include "strict.h"
 #include "windows.h"
@@ -153,6 +154,7 @@ static void start(void) {
     }
     sites_open(folder, rank);
     number_communicators();
+    learn_sizes();
     process = getpid();
     look_for_tools(rank);
     windows_count();
@@ -203,6 +205,7 @@ int MPI_Finalize(void) {
         journal_call("finalize", 0, NULL, site());
         journal_close();
         recording = false;
+        free_unused_requests();
     }
     return over(CALL(Finalize, ()));
 }

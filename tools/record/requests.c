@@ -66,13 +66,10 @@ Request **requests_active(int *count) {
 
 /* Closes the gap: a request after it moves into it if the gap lies between that request's home and its place.
  */
-void requests_remove(uintptr_t handle) {
-    Request *found = requests_find(handle);
-    if (!found)
-        return;
-    request_closes(found);
-    free(found->template);
-    size_t hole = found - places, mask = room - 1;
+void requests_remove(Request *request) {
+    request_closes(request);
+    free(request->template);
+    size_t hole = request - places, mask = room - 1;
     for (size_t at = (hole + 1) & mask; places[at].handle != 0; at = (at + 1) & mask) {
         if (((at - home(places[at].handle)) & mask) >= ((at - hole) & mask)) {
             places[hole] = places[at];

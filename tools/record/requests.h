@@ -38,6 +38,7 @@ typedef struct {
     Template *template;     /* of a persistent one that is recorded */
     uintptr_t comm;         /* the communicator that it makes, if that is known yet */
     const void *place;      /* else the program's variable that will have it */
+    struct Done *done;      /* the completed request of the recorder's own that it is (starts.c), or NULL */
     uint64_t origin;        /* of that communicator (sums.h) */
     uint64_t sent, message; /* what its send, or the message that it takes, adds to the sum of messages */
     Receive receive;        /* of itself, or of its second half */
@@ -49,7 +50,7 @@ Request *requests_find(uintptr_t handle);
 
 /* A request with a new handle, or NULL if there is no memory. */
 Request *requests_add(uintptr_t handle);
-void requests_remove(uintptr_t handle);
+void requests_remove(Request *request);
 
 /* The active ones that have a number, in the order in which they were started; NULL without memory. */
 Request **requests_active(int *count);

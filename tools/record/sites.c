@@ -23,6 +23,7 @@ static Identity sites_file, names_file;
 static char names_path[4096]; /* empty once the file is there or can't be */
 static FILE *names;
 static int frames_wanted, sites_known;
+static bool has_python;
 
 /* Sites by a 64-bit hash of their frames. Two places with the same hash would be taken for one. */
 static struct {
@@ -47,6 +48,20 @@ static bool is_open(FILE **file, Identity *identity) {
         *file = NULL;
     return *file;
 }
+
+/* The sites of some return addresses in the program: most calls come from there. */
+enum { MOST_DIRECT = 1 << 8 };
+typedef struct {
+    const void *caller;
+    int site;
+} Direct;
+static Direct direct[MOST_DIRECT];
+
+static Direct *direct_of(const void *caller) {
+    return &direct[((uintptr_t)caller * (uint64_t)0x9e3779b97f4a7c15u) >> 56];
+}
+
+void forget_sites(void) { memset(direct, 0, sizeof direct); }
 
 static uint64_t mixed(uint64_t hash, uint64_t more) { return (hash ^ more) * 0x100000001b3u + 1; }
 
@@ -179,8 +194,12 @@ static int site_of_frames(uint64_t key, void *const frames[], int count) {
 
 static int site_of_machine_code(void *caller, void **frame) {
     void *found = frames_wanted == 1 ? guess(caller, frame + 1) : NULL;
-    if (found)
-        return site_of_frames((uintptr_t)found, &found, 1);
+    if (found) {
+        int site = site_of_frames((uintptr_t)found, &found, 1);
+        if (found == caller && site && !has_python)
+            *direct_of(caller) = (Direct){caller, site};
+        return site;
+    }
     Walk walk = {.caller = caller};
     uint64_t key = 1;
     _Unwind_Backtrace(step, &walk);
@@ -216,7 +235,7 @@ void sites_open(const char *folder, int rank) {
     if (!is_open(&sites, &sites_file))
         return;
     setvbuf(sites, NULL, _IOLBF, 0);
-    find_python();
+    has_python = find_python();
 }
 
 void name_communicator(int number, const char *name) {
@@ -234,8 +253,11 @@ void name_communicator(int number, const char *name) {
 }
 
 int site_of(void *caller, void **frame) {
+    const Direct *known = direct_of(caller);
+    if (known->site && known->caller == caller)
+        return known->site;
     if (!sites)
         return 0;
-    int site = site_of_python();
+    int site = has_python ? site_of_python() : 0;
     return site ? site : site_of_machine_code(caller, frame);
 }

@@ -2,13 +2,19 @@
 #ifndef MPIWAIT_SITES_H
 #define MPIWAIT_SITES_H
 
+#include <stdbool.h>
+
 /* The program doesn't see these names. */
 #pragma GCC visibility push(hidden)
 
 /* The number of the site that is a line of Python code. */
 int site_of_line(const char *file, int line);
 
-void find_python(void);
+/* Whether the process has Python. */
+bool find_python(void);
+
+/* Modules were loaded or unloaded, so an address may now belong to another one. */
+void forget_sites(void);
 
 /* The site of the Python line that this thread executes; 0 if it runs no Python code, or if Python can't be
  * asked. */

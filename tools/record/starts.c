@@ -8,9 +8,23 @@ int new_number(void) { return journal_is_full ? 0 : ++last; }
 
 void restart_numbers(void) { last = 0; }
 
+/* ---- Completed requests of the recorder's own -------------------------------------------------- */
+
+/* Libraries give one and the same handle to all calls that complete at once. The program then gets a
+ * completed request of its own instead, so that its later wait shows which call it is for. To make one costs
+ * much, so after its wait it serves another call. */
+struct Done {
+    MPI_Request handle;
+    MPI_Status status; /* what the library's request had */
+    bool is_unused;    /* no call has it */
+    struct Done *next; /* of those */
+};
+
+static struct Done *unused;
+
 static int query_done(void *kept, MPI_Status *status) {
     int error = status->MPI_ERROR; /* which the library sets by itself */
-    *status = *(MPI_Status *)kept;
+    *status = ((struct Done *)kept)->status;
     status->MPI_ERROR = error;
     return MPI_SUCCESS;
 }
@@ -19,23 +33,68 @@ static int free_done(void *kept) { return free(kept), MPI_SUCCESS; }
 
 static int cancel_done(void *none, int complete) { return (void)none, (void)complete, MPI_SUCCESS; }
 
-/* Libraries give one and the same handle to all calls that complete at once. The program then gets a
- * completed request of its own instead, so that its later wait shows which call it is for. A handle that
- * isn't complete was reused: the wait for its old call wasn't seen, or returned an error. */
-static bool make_distinct(MPI_Request *handle) {
-    int done = 0;
-    MPI_Status *kept = calloc(1, sizeof *kept); /* the library may leave parts of it unset */
-    if (!kept)
-        return false;
-    REAL(Test)(handle, &done, kept);
-    if (done) {
-        REAL(Grequest_start)(query_done, free_done, cancel_done, kept, handle);
-        REAL(Grequest_complete)(*handle);
-    } else {
-        free(kept);
+static struct Done *make_done(void) {
+    struct Done *done = calloc(1, sizeof *done);
+    if (!done)
+        return NULL;
+    REAL(Grequest_start)(query_done, free_done, cancel_done, done, &done->handle);
+    REAL(Grequest_complete)(done->handle);
+    return done;
+}
+
+static struct Done *take_done(void) {
+    struct Done *done = unused;
+    if (!done)
+        return make_done();
+    unused = done->next;
+    done->is_unused = false;
+    return done;
+}
+
+/* A program may name a request twice in one wait, which is its error. */
+static void keep_done(struct Done *done) {
+    if (done->is_unused)
+        return;
+    done->is_unused = true;
+    done->next = unused;
+    unused = done;
+}
+
+void free_unused_requests(void) {
+    for (struct Done *done = unused; done; done = unused) {
+        MPI_Request handle = done->handle;
+        unused = done->next;
+        REAL(Request_free)(&handle); /* by `free_done' */
     }
+}
+
+MPI_Request handle_of(const struct Done *done) { return done->handle; }
+
+void waited_for(struct Done *done, MPI_Status *status, bool has_error) {
+    if (status)
+        query_done(done, status);
+    if (status && has_error)
+        status->MPI_ERROR = MPI_SUCCESS;
+    if (is_recorded())
+        keep_done(done);
+}
+
+/* A handle that isn't complete was reused: the wait for its old call wasn't seen, or returned an error. */
+static bool make_distinct(MPI_Request *handle, struct Done **own) {
+    int is_complete = 0;
+    struct Done *done = take_done();
+    if (!done)
+        return false;
+    done->status = (MPI_Status){0}; /* the library may leave parts of it unset */
+    REAL(Test)(handle, &is_complete, &done->status);
+    if (is_complete)
+        *handle = done->handle, *own = done;
+    else
+        keep_done(done);
     return true;
 }
+
+/* ---- Starts ------------------------------------------------------------------------------------ */
 
 static Request *added(MPI_Request handle) {
     Request *request = requests_add(bits(handle));
@@ -45,7 +104,8 @@ static Request *added(MPI_Request handle) {
 }
 
 Request *started(MPI_Request *handle, int number) {
-    if (requests_find(bits(*handle)) && !make_distinct(handle)) {
+    struct Done *done = NULL;
+    if (requests_find(bits(*handle)) && !make_distinct(handle, &done)) {
         journal_stop("there is no memory for its requests");
         return NULL;
     }
@@ -54,6 +114,7 @@ Request *started(MPI_Request *handle, int number) {
         request->number = journal_is_full ? 0 : number; /* `full' may have come in place of its line */
         request->site = journal_site;
         request->active = true;
+        request->done = done;
     }
     return request;
 }
@@ -101,8 +162,9 @@ int MPI_Request_free(MPI_Request *handle) {
         put_each("request_free", request);
     in_doubt = in_doubt || (request && is_unknown(request));
     int result = CALL(Request_free, (handle));
-    if (freed && is_recorded() && result == MPI_SUCCESS)
-        requests_remove(freed);
+    request = is_recorded() && result == MPI_SUCCESS ? requests_find(freed) : NULL;
+    if (request)
+        requests_remove(request);
     return over(result);
 }
 ALSO_PMPI(Request_free)

@@ -12,13 +12,11 @@
 
 enum { FOR_NONE = 1, FOR_ALL = 2 };
 
-static bool strict;
+bool strict;
 static char marks[4096];   /* the folder of these files, empty if there is none */
 static bool *has_recorder; /* of each rank of the world */
 static int world_size, answer_key = MPI_KEYVAL_INVALID;
 static MPI_Group world;
-
-bool is_strict(void) { return strict; }
 
 /* ---- Who has a recorder ------------------------------------------------------------------------ */
 
@@ -95,7 +93,7 @@ void collective_ends(int result) {
 
 /* ---- Sends ------------------------------------------------------------------------------------- */
 
-bool sends_synchronously(MPI_Comm comm) { return strict && is_of_program() && is_intracommunicator(comm); }
+bool makes_synchronous(MPI_Comm comm) { return is_of_program() && is_intracommunicator(comm); }
 
 int check_halves(Half out, Half in, MPI_Comm comm) {
     MPI_Request request;

@@ -11,14 +11,16 @@
 #pragma GCC visibility push(hidden)
 
 /* Whether the variable MPIWAIT_STRICT asks for it. */
-bool is_strict(void);
+extern bool strict;
+static inline bool is_strict(void) { return strict; }
 
 /* Which ranks of the world have a strict recorder: announced before MPI begins, looked up after. */
 void strict_announce(const char *folder);
 void strict_open(int ranks);
 
 /* Whether the program's sends on this communicator are passed on as synchronous ones. */
-bool sends_synchronously(MPI_Comm comm);
+bool makes_synchronous(MPI_Comm comm);
+static inline bool sends_synchronously(MPI_Comm comm) { return strict && makes_synchronous(comm); }
 
 /* A blocking collective call begins; it returned a result. The barrier is made even if the call failed, so
  * that no other rank waits for it in vain. */
@@ -52,7 +54,8 @@ void strict_look(MPI_Request handle);
 
 /* Whether the recorder has to ask requests while the call waits: receives with a wildcard, and cancelled
  * calls, which no call has completed. */
-bool strict_asks(void);
+bool has_to_ask(void);
+static inline bool strict_asks(void) { return strict && has_to_ask(); }
 
 /* Asks them until a call that waits for these requests would return: for all of them, or for one. It may also
  * end before. The recorder's lock isn't held. */

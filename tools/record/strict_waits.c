@@ -54,7 +54,7 @@ static Answer ask(MPI_Request handle, MPI_Status *status) {
     return done ? IS_COMPLETE : RUNS;
 }
 
-bool strict_asks(void) { return is_strict() && requests_open() > 0 && may_ask(); }
+bool has_to_ask(void) { return requests_open() > 0 && may_ask(); }
 
 void strict_ask(void) {
     MPI_Status status;

@@ -7,68 +7,59 @@
 #include "calls.h"
 #include "bypasses.h"
 #include "modules.h"
-#include <pthread.h>
+#include <time.h>
 
-/* What this thread is doing: how many functions of the recorder it is inside, since a library's calls of its
- * own aren't the program's; the frame and the caller of the outermost one; its present or last turn; and the
- * site of the call, -1 until it is looked up. */
-static __thread Thread own __attribute__((tls_model("initial-exec")));
+__thread Thread thread __attribute__((tls_model("initial-exec")));
+unsigned long turn_now;
 
-/* Which turn it is, 0 for none, and the number of the last turn. */
-static struct {
-    unsigned long now, last;
-    bool is_of_first; /* the thread of MPI_Init has the turn */
-} turn;
+static unsigned long last_turn;
+static bool is_of_first; /* the thread of MPI_Init has the turn */
 
-enum { NEAR = 1 << 16 };
+enum { NEAR = 1 << 16, BUSY_LOOKS = 1000, A_MOMENT = 20000 };
 
-static pthread_mutex_t lock = PTHREAD_MUTEX_INITIALIZER;
-static pthread_t first;
-static bool several; /* MPI_THREAD_MULTIPLE: threads may call at once */
-static bool alone;   /* they did: from then on only calls of the thread of MPI_Init are recorded */
+/* The recorder's lock. It opens by a mere store, since a mutex would double what it costs. So nobody can be
+ * woken then, and a thread that waits for it looks again and again: it is held for a moment only. */
+static bool is_taken;
+
+static const Thread *first; /* of the thread of MPI_Init */
+static bool several;        /* MPI_THREAD_MULTIPLE: threads may call at once */
+static bool alone;          /* they did: from then on only calls of the thread of MPI_Init are recorded */
+
+static bool try_lock(void) {
+    if (__atomic_load_n(&is_taken, __ATOMIC_RELAXED) ||
+        __atomic_exchange_n(&is_taken, true, __ATOMIC_ACQUIRE))
+        return false;
+    return thread.is_locked = true;
+}
 
 static void take_lock(void) {
-    pthread_mutex_lock(&lock);
-    own.is_locked = true;
+    for (int looks = 0; !try_lock(); looks++)
+        if (looks > BUSY_LOOKS)
+            clock_nanosleep(CLOCK_MONOTONIC, 0, &(struct timespec){.tv_nsec = A_MOMENT}, NULL);
 }
 
 static void give_lock(void) {
-    own.is_locked = false;
-    pthread_mutex_unlock(&lock);
+    thread.is_locked = false;
+    __atomic_store_n(&is_taken, false, __ATOMIC_RELEASE);
 }
-
-static bool has_turn(void) {
-    return own.turn != 0 && __atomic_load_n(&turn.now, __ATOMIC_RELAXED) == own.turn;
-}
-
-bool is_recorded(void) { return own.inside == 1 && has_turn(); }
-
-bool is_of_program(void) { return own.inside == 1; }
 
 bool another_calls(void) {
-    unsigned long now = __atomic_load_n(&turn.now, __ATOMIC_RELAXED);
-    return now != 0 && now != own.turn;
+    unsigned long now = __atomic_load_n(&turn_now, __ATOMIC_RELAXED);
+    return now != 0 && now != thread.turn;
 }
 
 /* If several threads may call, the lines of another thread's call may be taken out later. */
-bool may_ask(void) { return is_recorded() && !alone && (!several || turn.is_of_first); }
-
-int site(void) {
-    if (own.site < 0)
-        own.site = site_of(own.caller, own.frame);
-    return own.site;
-}
+bool may_ask(void) { return is_recorded() && !alone && (!several || is_of_first); }
 
 void turns_open(int level) {
     several = level == MPI_THREAD_MULTIPLE;
-    first = pthread_self();
+    first = &thread;
 }
 
 bool last_turn_begins(void) {
-    if (own.is_locked || pthread_mutex_trylock(&lock) != 0)
+    if (thread.is_locked || !try_lock())
         return false;
-    own.is_locked = true;
-    if (recording && turn.now == 0)
+    if (recording && turn_now == 0)
         return true;
     give_lock();
     return false;
@@ -89,21 +80,21 @@ static const char other_threads[] = "calls of another thread than that of MPI_In
 static void two_at_once(void) {
     if (!several) {
         journal_take_back();
-        turn.now = 0;
+        turn_now = 0;
         journal_stop("two threads called MPI at once");
         return;
     }
-    if (!turn.is_of_first) {
+    if (!is_of_first) {
         journal_take_back();
-        turn.now = 0;
+        turn_now = 0;
         left_out(PARTNERS, other_threads);
     }
     alone = true;
 }
 
 static bool may_have_turn(void) {
-    bool is_first = pthread_equal(pthread_self(), first);
-    if (turn.now != 0 && turn.now != own.turn && !(alone && !is_first))
+    bool is_first = &thread == first;
+    if (turn_now != 0 && turn_now != thread.turn && !(alone && !is_first))
         two_at_once();
     if (alone && !is_first)
         left_out(PARTNERS, other_threads);
@@ -118,16 +109,16 @@ bool take_turn(void) {
         give_lock();
         return false;
     }
-    own.turn = turn.now = ++turn.last;
-    turn.is_of_first = pthread_equal(pthread_self(), first);
-    own.site = -1;
+    thread.turn = turn_now = ++last_turn;
+    is_of_first = &thread == first;
+    thread.site = -1;
     journal_begin();
     return true;
 }
 
 static void end_turn(void) {
     journal_came_back();
-    __atomic_store_n(&turn.now, 0, __ATOMIC_RELEASE);
+    __atomic_store_n(&turn_now, 0, __ATOMIC_RELEASE);
     give_lock();
 }
 
@@ -136,7 +127,9 @@ static void end_turn(void) {
 /* The return address of a function lies next to its frame. If the frame is near, that place can still be
  * read: another value there means that the function was left. */
 #if defined __x86_64__ || defined __aarch64__
-static bool is_overwritten(void **frame) { return own.frame - frame < NEAR && own.frame[1] != own.caller; }
+static bool is_overwritten(void **frame) {
+    return thread.frame - frame < NEAR && thread.frame[1] != thread.caller;
+}
 #else
 static bool is_overwritten(void **frame) { return (void)frame, false; }
 #endif
@@ -145,41 +138,41 @@ static bool is_overwritten(void **frame) { return (void)frame, false; }
  * begins above it on the stack. It also was if the next call overwrote it, which happens when that call has
  * more arguments on the stack. */
 static bool was_left(const void *caller, void **frame) {
-    return frame >= own.frame || (is_overwritten(frame) && module_of(caller) != OF_MPI);
+    return frame >= thread.frame || (is_overwritten(frame) && module_of(caller) != OF_MPI);
 }
 
 /* A call that was left counts as failed, since what it did isn't known. */
 static void forget_call(void) {
-    own.inside = 0;
+    thread.inside = 0;
     if (!has_turn())
         return;
-    if (!own.is_locked)
+    if (!thread.is_locked)
         take_lock();
     journal_failed();
     end_turn();
 }
 
 bool begins_quietly(void *caller, void *frame) {
-    if (own.inside > 0 && was_left(caller, frame))
+    if (thread.inside > 0 && was_left(caller, frame))
         forget_call();
-    if (own.inside++ > 0)
+    if (thread.inside++ > 0)
         return false;
-    own.frame = frame;
-    own.caller = caller;
-    own.has_barrier = false;
+    thread.frame = frame;
+    thread.caller = caller;
+    thread.has_barrier = false;
     return recording && take_turn();
 }
 
 bool begins(void *caller, void *frame) {
     if (begins_quietly(caller, frame))
         return true;
-    if (own.inside > 1 && recording && has_turn() && module_of(caller) != OF_MPI)
+    if (thread.inside > 1 && recording && has_turn() && module_of(caller) != OF_MPI)
         left_out(PARTNERS, "calls of functions of the program that MPI called");
     return false;
 }
 
 void leave_recorder(void) {
-    if (own.inside == 1 && own.is_locked)
+    if (thread.inside == 1 && thread.is_locked)
         give_lock();
 }
 
@@ -197,21 +190,21 @@ int over(int result) {
             journal_failed();
         end_turn();
     }
-    own.inside--;
+    thread.inside--;
     return result;
 }
 
 /* ---- Barriers of strict runs ------------------------------------------------------------------- */
 
 void want_barrier(MPI_Comm comm) {
-    own.has_barrier = true;
-    own.barrier = comm;
+    thread.has_barrier = true;
+    thread.barrier = comm;
 }
 
 bool take_barrier(MPI_Comm *comm) {
-    bool had_one = own.has_barrier;
-    *comm = own.barrier;
-    own.has_barrier = false;
+    bool had_one = thread.has_barrier;
+    *comm = thread.barrier;
+    thread.has_barrier = false;
     return had_one;
 }
 
@@ -220,41 +213,40 @@ bool take_barrier(MPI_Comm *comm) {
 /* Takes the lock while this thread has the turn. It doesn't block on the lock: its owner may wait for
  * something that this thread holds inside MPI. */
 static bool take_lock_of_turn(void) {
-    while (!own.is_locked && pthread_mutex_trylock(&lock) != 0)
+    while (!thread.is_locked && !try_lock())
         if (!has_turn())
             return false;
-    own.is_locked = true;
     return has_turn();
 }
 
 /* Calls of the handler are recorded like all others. */
 Thread leave_by_error(void) {
-    Thread before = own;
+    Thread before = thread;
     if (has_turn() && take_lock_of_turn()) {
         journal_failed();
         end_turn();
     } else {
         before.turn = 0;
-        if (own.is_locked)
+        if (thread.is_locked)
             give_lock();
     }
     MPI_Comm comm;
     if (take_barrier(&comm))
         REAL(Barrier)(comm);
     before.has_barrier = false;
-    own.inside = 0;
+    thread.inside = 0;
     return before;
 }
 
 /* The call continues, but its lines are already complete. */
 void come_back_to_error(Thread before) {
-    own = before;
-    own.is_locked = false;
+    thread = before;
+    thread.is_locked = false;
     if (before.turn == 0)
         return;
     take_lock();
-    if (recording && turn.now == 0) {
-        turn.now = own.turn;
+    if (recording && turn_now == 0) {
+        turn_now = thread.turn;
         journal_begin();
     }
     if (!before.is_locked)
