@@ -2,7 +2,9 @@
 
 import argparse
 import os
+import signal
 import sys
+import time
 import traceback
 from collections import Counter
 from contextlib import suppress
@@ -43,6 +45,30 @@ def say(text):
     """Writes to standard error, which may be closed."""
     with suppress(OSError, ValueError, AttributeError):
         print(f"tools/{Path(sys.argv[0]).name}: {text}", file=sys.stderr, flush=True)
+
+
+def fields_of(process):
+    """What the system says of a process after its name: its state, its parent, .."""
+    try:
+        with open(f"/proc/{process}/stat", encoding="ascii", errors="replace") as file:
+            return file.read().rpartition(")")[2].split()
+    except OSError:
+        return ["X", ""]
+
+
+def end_tree(root):
+    """Ends what was started on this machine, the launcher and the ranks. It ends those on other machines."""
+    parents = {int(one): fields_of(one)[1] for one in os.listdir("/proc") if one.isdecimal()}
+    tree, until = [root], time.monotonic() + 5
+    for process in tree:  # which grows
+        tree += [one for one, parent in parents.items() if parent == str(process)]
+    for number in (signal.SIGTERM, signal.SIGKILL):
+        for process in tree:
+            with suppress(OSError):
+                os.kill(process, number)
+        while tree and time.monotonic() < until:
+            time.sleep(0.1)
+            tree = [process for process in tree if fields_of(process)[0] not in "ZX"]
 
 
 def why_of(fault):
