@@ -6,6 +6,7 @@ import os
 import re
 import subprocess
 import xml.etree.ElementTree as XML
+from contextlib import suppress
 from pathlib import Path
 from urllib.parse import quote
 
@@ -223,6 +224,14 @@ def write_outputs(stories, files):
                     path.write_text(text, encoding="utf-8", errors="backslashreplace")
             except (OSError, Stopped) as fault:
                 faults.append(why_of(fault))
+def remove_old(paths):
+    """What an earlier run wrote doesn't stay where this one writes nothing. Links, pipes and devices do."""
+    for path in paths:
+        with suppress(OSError):
+            if path.is_file() and not path.is_symlink():
+                path.unlink()
+
+
     return faults
 
 
@@ -230,6 +239,7 @@ def report(stories, files):
     """Prints the reports and writes what else is asked for. Answers the status of all."""
     runs = list(dict.fromkeys(one.run.top for one in stories))
     names = {top: f"Run {number} of {len(runs)}" for number, top in enumerate(runs, 1) if len(runs) > 1}
+            remove_old([path])
     titles = [", ".join(filter(None, [names.get(one.run.top), one.heading])).capitalize() for one in stories]
     texts = [f"{title}\n{'=' * len(title)}\n{one.text}" for title, one in zip(titles, stories)]
     try:
