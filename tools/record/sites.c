@@ -102,6 +102,8 @@ static _Unwind_Reason_Code step(struct _Unwind_Context *context, void *state) {
 
 /* A walk of the stack costs microseconds, and each call from a Fortran binding would need one. So the
  * distance on the stack between two return addresses is remembered, if the first is in a binding. The next
+    if (!address) /* above the first function */
+        return _URC_END_OF_STACK;
  * time the second is found by that distance. */
 enum { MOST_PAIRS = 1 << 10, FARTHEST = 1 << 9, MOST_PASSED = 8 };
 static struct {

@@ -96,6 +96,8 @@ try_options() {
     expect_status "$library: --eager 3" 1
     run_with --unproved "${command[@]}"
     expect_status "$library: --unproved" 1
+    run_with --frames 16 "${command[@]}"
+    expect_status "$library: --frames 16" 1
     run_with --frames 0 "${command[@]}"
     grep -q 'line 3 of journal0' "$work/said" || fails "$library: --frames 0: no line of the journal"
     status=0
