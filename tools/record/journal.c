@@ -67,8 +67,7 @@ bool is_still_ours(int file, Identity *identity) {
     return now.st_dev == identity->device && now.st_ino == identity->place;
 }
 
-/* Whether a file may be so long. The system ends a process by SIGXFSZ that makes a longer one. */
-static bool may_have(unsigned long size) {
+bool may_have(unsigned long size) {
     struct rlimit most;
     return getrlimit(RLIMIT_FSIZE, &most) != 0 || most.rlim_cur == RLIM_INFINITY || size <= most.rlim_cur;
 }

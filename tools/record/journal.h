@@ -136,6 +136,9 @@ typedef struct {
     bool is_known;
     unsigned long device, place;
 } Identity;
+/* Whether a file may be so long. The system ends a process by SIGXFSZ that makes a longer one. */
+bool may_have(unsigned long size);
+
 bool is_still_ours(int file, Identity *identity);
 
 enum { LONGEST_ID = 40 };
