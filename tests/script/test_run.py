@@ -1,9 +1,13 @@
 """What tools/run asks of the checker, with one that notes its words and finds a hang that buffers let go."""
 
+import contextlib
 import os
 import shutil
+import signal
 import subprocess
+import sys
 import tempfile
+import time
 import unittest
 from pathlib import Path
 
@@ -22,6 +26,15 @@ exit 1
 """
 JOURNAL = "journal 2 0 1 a-run i a library\nsend 0 0 0 4\nrecv 0 0 0\nfinalize\n"
 BUFFERED = "If all messages are buffered, this run is free"
+# A command `rt` whose proof lasts. It notes its processes, one of which has a session of its own.
+RT = """#!/bin/sh
+sleep 600 & one=$!
+setsid sleep 600 & other=$!
+echo $$ $one $other >"$BEGUN.new" && mv "$BEGUN.new" "$BEGUN"
+wait
+"""
+# What tools/run does before it begins a run.
+TRY_OUT = "from companions import runs, script; script.run_script(lambda _: runs.Judge().try_out())"
 
 
 class Run(unittest.TestCase):
@@ -82,6 +95,64 @@ class Run(unittest.TestCase):
         status, asked, said = self.run_again("--unproved", PATH=str(tools))
         self.assertEqual((status, asked), (3, []))
         self.assertIn("no command rt of the Rattle kit", said)
+
+
+def still_runs(process):
+    try:
+        return Path(f"/proc/{process}/stat").read_text().rpartition(")")[2].split()[0] not in "ZX"
+    except OSError:
+        return False
+
+
+class Interrupted(unittest.TestCase):
+    """A signal while the checker is built ends what builds it."""
+
+    def setUp(self):
+        Run.setUp(self)
+        for name in ("mpiwait", "HANDLES", "crates.txt"):
+            shutil.copy(TOP / name, self.folder / name)
+        for name in ("src", "specs", "proofs"):
+            (self.folder / "crates/mpiwait" / name).mkdir(parents=True)
+        (self.folder / "bin").mkdir()
+        (self.folder / "bin/rt").write_text(RT)
+        (self.folder / "bin/rt").chmod(0o755)
+        self.begun = self.folder / "begun"
+
+    def begin(self, command, said):
+        path = f"{self.folder / 'bin'}:{os.environ['PATH']}"
+        return subprocess.Popen(["env", "--default-signal=INT,TERM,HUP", *command], cwd=self.folder / "tools",
+                                env={**os.environ, "MPIWAIT": "", "PATH": path, "BEGUN": str(self.begun)},
+                                stdin=subprocess.DEVNULL, stdout=said, stderr=said, start_new_session=True)
+
+    def processes(self):
+        """Those of rt, once it has begun."""
+        until = time.monotonic() + 30
+        while not self.begun.exists() and time.monotonic() < until:
+            time.sleep(0.05)
+        found = list(map(int, self.begun.read_text().split()))
+        self.begun.unlink()
+        return found
+
+    def end(self, running, processes):
+        """Ends what is left, so that it doesn't keep the next one from building."""
+        with contextlib.suppress(ProcessLookupError):
+            os.killpg(running.pid, signal.SIGKILL)
+        for process in filter(still_runs, processes):
+            os.kill(process, signal.SIGKILL)
+
+    def test_what_builds_the_checker_ends(self):
+        again = [self.folder / "tools/run", "--folder", self.folder / "run", "--again"]
+        for command in (again, [sys.executable, "-c", TRY_OUT]):
+            for number in (signal.SIGTERM, signal.SIGINT, signal.SIGHUP):
+                with self.subTest(command[-1], number=number), open(self.folder / "said", "w+") as said:
+                    running = self.begin(command, said)
+                    processes = self.processes()
+                    running.send_signal(number)
+                    status, left = running.wait(30), list(filter(still_runs, processes))
+                    self.end(running, processes)
+                    said.seek(0)
+                    self.assertEqual((status, left), (4, []))
+                    self.assertIn("it was interrupted", said.read())
 
 
 if __name__ == "__main__":

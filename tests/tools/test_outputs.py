@@ -112,6 +112,28 @@ class Sarif(Folders):
     def test_below_this_folder(self):
         self.assertEqual(outputs.uri_of(os.path.join(os.getcwd(), "a b.c")), "a%20b.c")
 
+    def test_a_run_that_is_not_judged_is_no_clean_one(self):
+        """The words are those of the report, and the status of all is that of the worst."""
+        unmatched = "P 000000000003 calls of another thread\n"
+        for ranks, more, status, level, words in (
+            (BOTH, {}, 1, None, None),
+            (["finalize"], {}, 0, None, None),
+            (["wait 3 / finalize"], {}, 2, "error", "refused rank 0 line 2 J8 request"),
+            (BOTH, {"faults": ["judge"]}, 4, "error", "out of memory"),
+            (BOTH, {"faults": ["--eager=2147483647"]}, 1, None, None),
+            (["barrier 0 @1"] * 2, {}, 5, "warning", "verdict unfinished: "),
+            (BOTH, {"left": unmatched}, 6, "warning", "not judged: recorded calls may match 3 calls"),
+        ):  # fmt: skip
+            with self.subTest(status=status):
+                self.again()
+                self.run_of(*ranks)
+                self.write("journal/left0", more.pop("left", ""))
+                story = self.judged(*ranks, **more)
+                called = json.loads(outputs.as_sarif([story]))["runs"][0]["invocations"][0]
+                said = [(one["level"], one["message"]["text"][: len(words)]) for one in called["toolExecutionNotifications"]]
+                self.assertEqual(story.status, status)
+                self.assertEqual((called["executionSuccessful"], said), (not level, [(level, words)] if level else []))
+
 
 class AsJson(Folders):
     def json(self, *ranks, **words):

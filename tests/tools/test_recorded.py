@@ -254,6 +254,10 @@ class Places(Folders):
         self.assertEqual(self.found("0x1f\n??\n??:0\n"), "x.so+0x20")
         self.assertEqual(self.found("", "/lib/z\n.so+0x20"), "z\\n.so+0x20")
 
+    def test_a_frame_without_an_address(self):
+        """As recorders up to 2026-11 wrote it of the place above the first function."""
+        self.assertEqual(self.found("", "?+(nil)"), "?+(nil)")
+
     def test_python(self):
         self.assertEqual(self.found("", "/src/a.py:3"), "/src/a.py:3")
         self.assertEqual(self.found("", f"{os.getcwd()}/a.py:3"), "a.py:3")

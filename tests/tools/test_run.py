@@ -94,6 +94,40 @@ class Again(Folders):
         self.assertIn("verdict hang", done.stdout)
         self.assertIn("none/a.json", done.stderr)
 
+    def test_what_an_earlier_run_wrote_does_not_stay(self):
+        """A run in which nobody waits has no picture, and one that isn't judged has nothing."""
+        names = {kind: f"a.{kind}" for kind in ("svg", "junit", "sarif")}
+        words = [f"--{kind}={name}" for kind, name in names.items()]
+        (self.folder / "mpiwait-run/journal").mkdir(parents=True)
+        for calls, status, wanted in ((None, 4, []), ("finalize", 0, ["a.junit", "a.sarif"])):
+            with self.subTest(calls):
+                for name in names.values():
+                    self.write(name, "an old one")
+                if calls:
+                    self.write("mpiwait-run/journal/journal0", journal(0, 1, calls))
+                done = self.again(*words, **self.checker(SAYS_FREE))
+                self.assertEqual((done.returncode, sorted(path.name for path in self.folder.glob("a.*"))), (status, wanted))
+        self.assertNotIn("an old one", self.read("a.junit"))
+
+    def test_a_picture_that_fails_leaves_no_old_one(self):
+        self.run_of(*BOTH)
+        self.again()
+        self.write("a.svg", "an old one")
+        self.write("dot", "#!/bin/sh\nexit 1\n")
+        os.chmod(self.folder / "dot", 0o755)
+        done = self.again("--svg=a.svg", PATH=f"{self.folder}:{os.environ['PATH']}")
+        self.assertEqual((done.returncode, (self.folder / "a.svg").exists()), (4, False))
+
+    def test_only_files_are_removed(self):
+        """As --svg /dev/stdout names a link."""
+        self.run_of("finalize")
+        self.write("a.file", "")
+        os.symlink("a.file", self.folder / "a.link")
+        os.mkfifo(self.folder / "a.pipe")
+        for name in ("a.link", "a.pipe"):
+            done = self.again(f"--svg={name}", **self.checker(SAYS_FREE))
+            self.assertEqual((done.returncode, os.path.lexists(self.folder / name)), (0, True))
+
     def test_a_full_output(self):
         self.run_of(*BOTH)
         self.again()

@@ -290,6 +290,12 @@ class CutOff(Folders):
             self.assertIn(f"rank 0 waits in MPI_{wait.capitalize()} at /a.py:5, for a send", found.text)
             self.assertIn("started by MPI_Irecv at /a.py:4 from rank 1 with tag 4", found.text)
 
+    def test_a_wait_for_any_of_many_says_each_need_once(self):
+        starts = " / ".join(f"irecv {request} 0 1 {request} @4" for request in range(1, 31))
+        found = self.judged(f"{starts} / waitany {' '.join(map(str, range(1, 31)))} @5", "barrier 0 @6")
+        said = found.text.partition("What this assumes")[0]
+        self.assertEqual((found.status, said.count("for a send that rank 1 hasn't made so far")), (1, 1))
+
     def test_a_message_that_a_matched_probe_took(self):
         sender = "ssend 0 0 2 @1 / ssend 0 0 2 @2 / finalize"
         found = self.judged("mprobe 1 0 1 2 @3 / =got 1 2 / recv 0 1 2 @4 / mrecv 1 @5 / finalize", sender)

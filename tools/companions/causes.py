@@ -45,7 +45,7 @@ def message_words(stuck):
 
 def stuck_lines(first, *others):
     """Some stuck ranks that wait alike."""
-    needs = [need_words(first, *need) for need in first.needs]
+    needs = list(dict.fromkeys(need_words(first, *need) for need in first.needs))
     if len(first.waited) > 2 or others and any(call for _, call in first.needs):
         needs = [f"for {ranks_named({rank for rank, _ in first.needs})}"] if needs else []
     is_for_message = first.is_pending and (first.senders or not needs or first.sinks)

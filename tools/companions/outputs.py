@@ -6,6 +6,7 @@ import os
 import re
 import subprocess
 import xml.etree.ElementTree as XML
+from contextlib import suppress
 from pathlib import Path
 from urllib.parse import quote
 
@@ -18,6 +19,8 @@ RULES = {"hang": "A rank waits for ever", "may-hang": "A rank may wait for ever,
          "different-calls": "Calls or roots of one collective differ"}  # fmt: skip
 # The outcome of a test by its status.
 OUTCOMES = ("", "failure", "error", "error", "error", "skipped", "skipped", "failure", "failure")
+# Those of runs that aren't judged, and their level in SARIF.
+UNJUDGED = {"error": "error", "skipped": "warning"}
 
 
 def call_json(call):
@@ -74,7 +77,12 @@ def results(story):
 def as_sarif(stories):
     rules = [{"id": name, "shortDescription": {"text": text}} for name, text in RULES.items()]
     found = [one for story in stories for one in results(story)]
-    run = {"tool": {"driver": {"name": "mpiwait", "rules": rules}}, "results": found}
+    called = {"executionSuccessful": OUTCOMES[worst([one.status for one in stories])] not in UNJUDGED}
+    called["toolExecutionNotifications"] = [  # else a run that isn't judged would look like a free one
+        {"level": UNJUDGED[OUTCOMES[one.status]],
+         "message": {"text": "\n".join([one.title, *(one.unanswered.values() if one.shown else ())])}}
+        for one in stories if OUTCOMES[one.status] in UNJUDGED]  # fmt: skip
+    run = {"tool": {"driver": {"name": "mpiwait", "rules": rules}}, "invocations": [called], "results": found}
     log = {"$schema": "https://json.schemastore.org/sarif-2.1.0.json", "version": "2.1.0", "runs": [run]}
     return json.dumps(log, indent=1)
 
@@ -210,6 +218,14 @@ OUTPUTS = {
 }  # fmt: skip
 
 
+def remove_old(paths):
+    """What an earlier run wrote doesn't stay where this one writes nothing. Links, pipes and devices do."""
+    for path in paths:
+        with suppress(OSError):
+            if path.is_file() and not path.is_symlink():
+                path.unlink()
+
+
 def write_outputs(stories, files):
     """Writes what was asked for. Answers what went wrong."""
     faults = []
@@ -217,6 +233,7 @@ def write_outputs(stories, files):
         written, is_each, _ = OUTPUTS[kind]
         parts = [(numbered(path, place), one) for place, one in enumerate(stories, 1)]
         for path, what in parts if is_each else [(path, stories)]:
+            remove_old([path])
             try:
                 text = written(what)
                 if text is not None:

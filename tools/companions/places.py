@@ -41,7 +41,7 @@ class Places:
                 modules.setdefault(found[1], {})[int(found[2], 16) - 1] = frame
             else:
                 path, _, line = frame.rpartition(":")
-                self._found[frame] = [Frame(path, int(line))]
+                self._found[frame] = [Frame(path, int(line)) if line.isdecimal() else Frame(other=frame)]
         for module, offsets in modules.items():
             self._found |= {offsets[offset]: found for offset, found in lines_of(module, offsets).items()}
 

@@ -8,7 +8,7 @@ import shutil
 import time
 from pathlib import Path
 
-from .outputs import OUTPUTS, report, runs_in
+from .outputs import OUTPUTS, remove_old, report, runs_in
 from .recorder import library_of, with_recorder
 from .runs import MOST_BYTES, VERDICTS, Judge
 from .script import HERE, Status, Stopped, Words, plural, say, worst
@@ -104,6 +104,7 @@ def make_folder(folder):
 def main(argv):
     words, began, status, found = words_of(argv), time.monotonic(), 0, {}
     folder, program = Path(os.path.abspath(words.folder)), HERE.parent.parent / "crates/mpiwait/out/mpiwait"
+    remove_old(words.files.values())
     if words.unproved and not os.access(program, os.X_OK) and not shutil.which("rt"):
         raise Stopped("there is no command rt of the Rattle kit, which builds the checker", Status.WORDS)
     if not words.again:

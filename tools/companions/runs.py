@@ -91,7 +91,7 @@ class Stuck:
         self.starts = [one for one in calls if one.word in MATCHED or wanted & set(one.requests)]
         left = view.left_calls[self.rank] if self.is_pending else []
         self.sinks = [one for one in left if wanted & set(one.requests) and one is not self.call]
-        self.calls = [self.call, *self.starts]
+        self.calls, self.lacking = [self.call, *self.starts], lru_cache(None)(self._lacking)
 
     def arrows(self):
         """What it waits for, as pairs of a rank and a call, None for a missing one and for a message."""
@@ -102,7 +102,7 @@ class Stuck:
         halves = [half for call in self.sinks or [self.call] for half in call.halves if not half.is_send]
         return list(dict.fromkeys(half.text().removesuffix(" with any tag") for half in halves))
 
-    def lacking(self, rank):
+    def _lacking(self, rank):
         """The messages that it exchanges with a rank, but for those for which that rank has a call."""
         calls = [call for needed, call in self.needs if needed == rank and call]
         met = {(half.is_send, half.tag) for call in calls for half in call.halves}

@@ -2,7 +2,9 @@
 
 import argparse
 import os
+import signal
 import sys
+import time
 import traceback
 from collections import Counter
 from contextlib import suppress
@@ -15,6 +17,7 @@ HERE = Path(__file__).resolve().parent
 Status = IntEnum("S", "FREE HANG REFUSED WORDS IMPOSSIBLE UNFINISHED NOT_JUDGED DIFFERENT FAILED", start=0)
 MOST = 12  # lines of one section, and parts of a list of ranks
 ORDER = "432167580"  # of several statuses the first of these is the script's
+SIGNALS = (signal.SIGINT, signal.SIGTERM, signal.SIGHUP)
 
 
 def worst(statuses):
@@ -45,6 +48,39 @@ def say(text):
         print(f"tools/{Path(sys.argv[0]).name}: {text}", file=sys.stderr, flush=True)
 
 
+def fields_of(process):
+    """What the system says of a process after its name: its state, its parent, .."""
+    try:
+        with open(f"/proc/{process}/stat", encoding="ascii", errors="replace") as file:
+            return file.read().rpartition(")")[2].split()
+    except OSError:
+        return ["X", ""]
+
+
+def end_tree(root, without_root=False):
+    """Ends what was started on this machine, the launcher and the ranks. It ends those on other machines."""
+    parents = {int(one): fields_of(one)[1] for one in os.listdir("/proc") if one.isdecimal()}
+    tree, until = [root], time.monotonic() + 5
+    for process in tree:  # which grows
+        tree += [one for one, parent in parents.items() if parent == str(process)]
+    tree = tree[without_root:]
+    for number in (signal.SIGTERM, signal.SIGKILL):
+        for process in tree:
+            with suppress(OSError):
+                os.kill(process, number)
+        while tree and time.monotonic() < until:
+            time.sleep(0.1)
+            tree = [process for process in tree if fields_of(process)[0] not in "ZX"]
+
+
+def interrupted(*_):
+    """A signal ends what the script has started, also in other sessions, and then the script."""
+    for number in SIGNALS:
+        signal.signal(number, signal.SIG_IGN)
+    end_tree(os.getpid(), without_root=True)
+    raise KeyboardInterrupt
+
+
 def why_of(fault):
     if isinstance(fault, (Stopped, KeyboardInterrupt)):
         return str(fault) or "it was interrupted"
@@ -58,6 +94,9 @@ def run_script(main):
     """Runs a script and ends it: with 4, if a file, the output or what it was given fails it."""
     sys.stderr, status = sys.stderr or open(os.devnull, "w", encoding="ascii"), 0
     try:
+        for number in SIGNALS:
+            if signal.getsignal(number) != signal.SIG_IGN:  # as nohup has it
+                signal.signal(number, interrupted)
         if sys.stdout is None:
             raise Stopped("there is no standard output")
         sys.stdout.reconfigure(errors="backslashreplace")

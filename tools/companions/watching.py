@@ -12,7 +12,7 @@ from .causes import stuck_lines
 from .journals import windows_in
 from .outputs import runs_in
 from .runs import Run, View
-from .script import Stopped, ranks_named, say, why_of
+from .script import Stopped, end_tree, fields_of, ranks_named, say, why_of
 
 STEP, PAUSE = 0.2, 1.0  # seconds between two looks at the command, and at the journals
 
@@ -96,30 +96,6 @@ class Alarm:
         said += ["  " + line for rank in sorted(held)[:8] for line in stuck_lines(view.stuck[rank])]
         say("\n".join(said))
         return True
-
-
-def fields_of(process):
-    """What the system says of a process after its name: its state, its parent, .."""
-    try:
-        with open(f"/proc/{process}/stat", encoding="ascii", errors="replace") as file:
-            return file.read().rpartition(")")[2].split()
-    except OSError:
-        return ["X", ""]
-
-
-def end_tree(root):
-    """Ends what was started on this machine, the launcher and the ranks. It ends those on other machines."""
-    parents = {int(one): fields_of(one)[1] for one in os.listdir("/proc") if one.isdecimal()}
-    tree, until = [root], time.monotonic() + 5
-    for process in tree:  # which grows
-        tree += [one for one, parent in parents.items() if parent == str(process)]
-    for number in (signal.SIGTERM, signal.SIGKILL):
-        for process in tree:
-            with suppress(OSError):
-                os.kill(process, number)
-        while tree and time.monotonic() < until:
-            time.sleep(0.1)
-            tree = [process for process in tree if fields_of(process)[0] not in "ZX"]
 
 
 def is_in_front():

@@ -30,6 +30,8 @@ typedef struct {
     Named *requests;
     Field *packed;
     MPI_Status *statuses;
+    /* The word of a choice among more than MOST_ASKED; else NULL. */
+    const char *long_word;
     void *memory; /* of more than a few */
     Named few_requests[FEW];
     Field few_packed[2 * FEW];
@@ -130,24 +132,43 @@ static void put_list(const char *word, const Asked *asked, int count, const int 
     }
 }
 
+/* A wait that has no line while it lasts: it is counted. Once it came back, all is known of it. */
+static void count_choice(void) {
+    bool doubt = in_doubt;
+    if (!journal_is_full)
+        left_out(WAITS, "waits for any of more requests than a line of a journal holds");
+    in_doubt = doubt;
+}
+
 /* The line of a wait for one or some. There is none before the call returns if a request without a number may
- * complete it, or if one line can't hold it. A wait for one request that both sends and receives is a wait
- * for both of its numbers. */
+ * complete it, or if one line can't hold it: several lines would be several waits. A wait for one request
+ * that both sends and receives is a wait for both of its numbers. */
 static void put_choice(const char *word, bool is_for_one, Asked *asked) {
-    if (!asked->begun || asked->has_others || asked->named == 0 || asked->named > MOST_FIELDS / 2)
+    if (!asked->begun || asked->has_others || asked->named == 0)
         return;
     if (asked->pairs > 0 && is_for_one && asked->named > 1)
         return;
+    int all = pack(asked, asked->count, NULL);
+    if (!fits_line(all, asked->packed)) {
+        count_choice();
+        return;
+    }
     asked->line = asked->pairs > 0 && is_for_one ? WAIT_LINE : CHOICE_LINE;
-    put_list(asked->line == WAIT_LINE ? "wait" : word, asked, asked->count, NULL);
+    asked->long_word = asked->named > MOST_ASKED ? word : NULL;
+    journal_call(asked->line == WAIT_LINE ? "wait" : word, all, asked->packed, site());
 }
 
-/* The requests that it chose. */
+/* The requests that it chose. Now a long line names these alone, which is worth the same: many waits for many
+ * would fill the disk. */
 static void report_choice(Asked *asked, int count, const int places[]) {
     if (asked->line == NO_LINE)
         put_list("test", asked, count, places);
-    else if (asked->line == CHOICE_LINE)
-        journal_report("=chose", pack(asked, count, places), asked->packed);
+    if (asked->line != CHOICE_LINE)
+        return;
+    int all = pack(asked, count, places);
+    if (asked->long_word && journal_rewrites())
+        journal_call(asked->long_word, all, asked->packed, site());
+    journal_report("=chose", all, asked->packed);
 }
 
 /* ---- Completed requests ------------------------------------------------------------------------ */

@@ -15,6 +15,7 @@ enum {
     FIRST_WINDOW = 1 << 16, /* the part of the journal that is mapped at first */
     WINDOW = 1 << 20,       /* the largest part that is mapped at a time */
     LONGEST_LINE = 1 << 15,
+    LONGEST_REST = 64,   /* of a line: its word and its site */
     MOST_TIMES = 1000,   /* that room is reserved, if signals come meanwhile */
     LONGEST_STOP = 512,  /* the line with the reason why no more follow; there is always room for it */
     MOST_CALLS = 1000001 /* one more than a trace may have, since a trace has no MPI_Init */
@@ -67,8 +68,7 @@ bool is_still_ours(int file, Identity *identity) {
     return now.st_dev == identity->device && now.st_ino == identity->place;
 }
 
-/* Whether a file may be so long. The system ends a process by SIGXFSZ that makes a longer one. */
-static bool may_have(unsigned long size) {
+bool may_have(unsigned long size) {
     struct rlimit most;
     return getrlimit(RLIMIT_FSIZE, &most) != 0 || most.rlim_cur == RLIM_INFINITY || size <= most.rlim_cur;
 }
@@ -175,10 +175,18 @@ static bool move_window(void) {
     return true;
 }
 
-static bool has_room(int fields) {
+bool fits_line(int count, const Field *fields) {
+    char field[32];
+    Field most = 0;
+    for (int i = 0; i < count && count > MOST_FIELDS; i++)
+        most = fields[i] > most ? fields[i] : most;
+    return count * (put_field(field, most) - field) <= LONGEST_LINE - LONGEST_REST;
+}
+
+static bool has_room(int count, const Field *fields) {
     if (!journal.is_open)
         return false;
-    if (fields > MOST_FIELDS) {
+    if (count > MOST_FIELDS && !fits_line(count, fields)) {
         journal_stop("a call names more ranks than a line of the journal holds");
         return false;
     }
@@ -252,7 +260,7 @@ void journal_begin(void) {
 
 /* The first call beyond the most has the line `full` instead of its own. */
 void journal_call(const char *word, int count, const Field *fields, int site) {
-    if (journal_is_full || !has_room(count))
+    if (journal_is_full || !has_room(count, fields))
         return;
     journal_is_full = ++journal.calls > MOST_CALLS;
     journal_site = site;
@@ -267,12 +275,12 @@ void journal_call(const char *word, int count, const Field *fields, int site) {
 }
 
 void journal_report(const char *word, int count, const Field *fields) {
-    if (!journal_is_full && has_room(count))
+    if (!journal_is_full && has_room(count, fields))
         put_line(word, count, fields, 0);
 }
 
 void journal_done(int number, Field source, Field tag) {
-    if (has_room(3))
+    if (has_room(3, NULL))
         put_line("=done", 3, (Field[]){number, source, tag}, 0);
 }
 
@@ -298,6 +306,16 @@ void journal_take_back(void) {
     if (call.lines > 0 && !journal_is_full && !cut_from(call.begin))
         journal_failed();
     journal_came_back();
+}
+
+bool journal_rewrites(void) {
+    bool is_last = call.lines == 1 && call.first_end == place();
+    if (journal_is_full || !is_last || !cut_from(call.begin))
+        return false;
+    journal.calls--;
+    lines--;
+    call.lines = 0;
+    return true;
 }
 
 void journal_stop(const char *why) {
@@ -379,7 +397,7 @@ bool journal_begin_window(void) {
 }
 
 void journal_cut(void) {
-    if (!has_room(0)) {
+    if (!has_room(0, NULL)) {
         next.is_open = false;
         return;
     }

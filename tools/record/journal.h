@@ -51,7 +51,7 @@ typedef long long Field;
 #define UNDEFINED ((Field)INT_MAX + 3)
 #define UNKNOWN ((Field)INT_MAX + 4) /* the field is left out */
 
-/* The most fields of one line. */
+/* So many fields fit into one line, whatever they are. */
 enum { MOST_FIELDS = 2600 };
 
 /* Whether calls are recorded: from MPI_Init to MPI_Finalize, unless the recording stops before. */
@@ -79,6 +79,9 @@ void journal_cut(void);
 /* How many lines it has, those of earlier windows too. */
 unsigned long journal_lines(void);
 
+/* Whether fields fit into one line: more of them, all from 0 on, if the largest one has few digits. */
+bool fits_line(int count, const Field *fields);
+
 /* A call of the program begins. It may write several lines, or none. */
 void journal_begin(void);
 
@@ -105,6 +108,9 @@ void journal_take_back(void);
 typedef enum { TEST = 1, TESTALL, TESTANY, TESTSOME, IPROBE, IMPROBE } Poll;
 void journal_polled(Poll call, int site);
 
+/* Takes out the only line of the call, if nothing came after it, so that another one comes in its place. */
+bool journal_rewrites(void);
+
 /* The recording stops and the program continues: the rank's later calls aren't known. */
 void journal_stop(const char *why);
 
@@ -129,6 +135,9 @@ void counts_came_back(void);
 /* How both texts are made: a new file; and a part of it, zero bytes, mapped into memory, or NULL. */
 int create_text(const char *folder, const char *name, int rank);
 char *map_text(int file, long start, unsigned long size);
+
+/* Whether a file may be so long. The system ends a process by SIGXFSZ that makes a longer one. */
+bool may_have(unsigned long size);
 
 /* Whether a file number is still that of the same file as in the first call for it. A program may close all
  * files, and then open one of its own, which has the number of ours. */

@@ -96,7 +96,8 @@ static bool note_unrecorded(const char *folder, const char *why) {
     FILE *file = fopen(path, "ae");
     if (!file)
         return false;
-    bool written = fprintf(file, "%s\n", why) > 0;
+    bool has_room = fseek(file, 0, SEEK_END) == 0 && may_have(ftell(file) + strlen(why) + 1);
+    bool written = has_room && fprintf(file, "%s\n", why) > 0;
     return fclose(file) == 0 && written;
 }
 

@@ -171,7 +171,7 @@ static bool claim(const char *folder, const char *id) {
     FILE *file = fopen(mine, "wxe");
     if (!file)
         return false;
-    bool written = fprintf(file, "%s\n", id) > 0;
+    bool written = may_have(LONGEST_ID + 1) && fprintf(file, "%s\n", id) > 0;
     written = fclose(file) == 0 && written && put_in_place(mine, path);
     unlink(mine);
     return written;

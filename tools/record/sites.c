@@ -17,6 +17,7 @@
 #include <unwind.h>
 
 enum { MOST_FRAMES = 16, MOST_WALKED = 32, PLACES = 1 << 16, MOST_SITES = PLACES / 4 };
+enum { LONGEST_FRAME = 4 * 4096 + 64 }; /* in a text: each byte of its path may be written as four */
 
 static FILE *sites;
 static Identity sites_file, names_file;
@@ -31,22 +32,37 @@ static struct {
     int site;
 } known[PLACES];
 
-/* The entry for a key, which is 0 if it is new; NULL if it is new and the table is full. */
-static int *look_up(uint64_t key) {
-    size_t place = (key * 0x9e3779b97f4a7c15u) >> 48;
-    while (known[place].key != 0 && known[place].key != key)
-        place = (place + 1) % PLACES;
-    if (known[place].key == 0 && sites_known == MOST_SITES)
-        return NULL;
-    known[place].key = key;
-    return &known[place].site;
-}
-
 /* Whether a text is there to be written to. */
 static bool is_open(FILE **file, Identity *identity) {
     if (*file && !is_still_ours(fileno(*file), identity))
         *file = NULL;
     return *file;
+}
+
+/* Whether it may get so many bytes longer. */
+static bool has_room(FILE *file, unsigned long more) {
+    long length = ftell(file);
+    return length >= 0 && may_have(length + more);
+}
+
+/* Whether one more site can be noted, in so many bytes. Once there is no room for one, none is noted. */
+static bool may_note(unsigned long bytes) {
+    if (sites_known < MOST_SITES && is_open(&sites, &sites_file) && !has_room(sites, bytes)) {
+        left_out(NOTHING, "place of a call for which there was no room, as for all new ones after it");
+        sites_known = MOST_SITES;
+    }
+    return sites_known < MOST_SITES;
+}
+
+/* The entry for a key, which is 0 if it is new; NULL if it is new and can't be noted. */
+static int *look_up(uint64_t key, unsigned long bytes) {
+    size_t place = (key * 0x9e3779b97f4a7c15u) >> 48;
+    while (known[place].key != 0 && known[place].key != key)
+        place = (place + 1) % PLACES;
+    if (known[place].key == 0 && !may_note(bytes))
+        return NULL;
+    known[place].key = key;
+    return &known[place].site;
 }
 
 /* The sites of some return addresses in the program: most calls come from there. */
@@ -101,6 +117,8 @@ static _Unwind_Reason_Code step(struct _Unwind_Context *context, void *state) {
     Walk *walk = state;
     void *address = (void *)_Unwind_GetIP(context);
     bool is_first = walk->kept == 0;
+    if (!address) /* above the first function */
+        return _URC_END_OF_STACK;
     walk->is_past = walk->is_past || address == walk->caller;
     if (walk->is_past && is_first && module_of(address) != OF_PROGRAM) {
         walk->bindings[walk->passed++] = frame_of(context);
@@ -182,7 +200,7 @@ static void put_frame(void *address) {
 }
 
 static int site_of_frames(uint64_t key, void *const frames[], int count) {
-    int *site = look_up(key);
+    int *site = look_up(key, count * LONGEST_FRAME);
     if (!site || *site || count == 0 || !is_open(&sites, &sites_file))
         return site ? *site : 0;
     fprintf(sites, "%d", ++sites_known);
@@ -215,7 +233,7 @@ int site_of_line(const char *file, int line) {
     uint64_t key = mixed(2, line);
     for (const char *at = file; *at; at++)
         key = mixed(key, (unsigned char)*at);
-    int *site = look_up(key);
+    int *site = look_up(key, LONGEST_FRAME + 4 * strlen(file));
     if (!site || *site || !is_open(&sites, &sites_file))
         return site ? *site : 0;
     fprintf(sites, "%d\t", ++sites_known);
@@ -247,6 +265,10 @@ void name_communicator(int number, const char *name) {
     }
     if (!is_open(&names, &names_file))
         return;
+    if (!has_room(names, 64 + 4 * strlen(name))) {
+        left_out(NOTHING, "names of communicators for which there was no room");
+        return;
+    }
     fprintf(names, "%d ", number);
     put_name(names, name);
     fputc('\n', names);

@@ -96,6 +96,8 @@ try_options() {
     expect_status "$library: --eager 3" 1
     run_with --unproved "${command[@]}"
     expect_status "$library: --unproved" 1
+    run_with --frames 16 "${command[@]}"
+    expect_status "$library: --frames 16" 1
     run_with --frames 0 "${command[@]}"
     grep -q 'line 3 of journal0' "$work/said" || fails "$library: --frames 0: no line of the journal"
     status=0
@@ -270,6 +272,26 @@ record_into() {
         "${command[@]}" "$@" >"$work/said" 2>"$work/errors" </dev/null || status=$?
 }
 
+# Where there is no room for names, or for places of calls, the program goes on, and the report says so.
+try_limited() {
+    local library=$1 way=$2 name="$1: a limit on files, $2"
+    run_with --frames 16 "${command[@]:0:${#command[@]}-1}" \
+        bash -c 'ulimit -f 5000 && exec "$@"' bash "$work/program" "$way"
+    check_journals "$name"
+    expect_status "$name" 0
+    grep -q '^it came to its end' "$work/said" || fails "$name: the program was ended"
+    grep -q 'for which there was no room' "$work/said" || fails "$name: no word of it"
+}
+
+# Not even the ID of the run has room then. MPICH itself needs files.
+try_no_files() {
+    local library=$1 name="$1: files of no bytes"
+    [[ $library == openmpi ]] || return 0
+    run_with "${command[@]:0:${#command[@]}-1}" bash -c 'ulimit -f 0 && exec "$@"' bash "$work/program" names
+    expect_line "$name" 4 "isn't recorded" 'the program runs, and that is reported' \
+        "$(grep -q '^it came to its end' "$work/said" || echo 'the program was ended')"
+}
+
 try_no_room() {
     local library=$1 name="$1: a limit on files"
     prepare "$library" limited.c 1
@@ -277,6 +299,9 @@ try_no_room() {
     check_journals "$name"
     expect_line "$name" 5 'stops recording: there is no room' 'the recording stops' \
         "$(grep -q '^it came to its end' "$work/said" || echo 'the program was ended')"
+    try_limited "$library" names
+    try_limited "$library" places
+    try_no_files "$library"
     name="$library: a full disk"
     prepare "$library" many-calls.c 1
     run_with true 2>/dev/null || :
