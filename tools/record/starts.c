@@ -79,15 +79,20 @@ void waited_for(struct Done *done, MPI_Status *status, bool has_error) {
         keep_done(done);
 }
 
+/* MPI_Test of MPICH works on all that is under way, even if the request is complete; MPI_Wait doesn't. */
+static bool is_complete(MPI_Request *handle, MPI_Status *status) {
+    int done = 0;
+    REAL(Request_get_status)(*handle, &done, MPI_STATUS_IGNORE);
+    return done && REAL(Wait)(handle, status) == MPI_SUCCESS;
+}
+
 /* A handle that isn't complete was reused: the wait for its old call wasn't seen, or returned an error. */
 static bool make_distinct(MPI_Request *handle, struct Done **own) {
-    int is_complete = 0;
     struct Done *done = take_done();
     if (!done)
         return false;
     done->status = (MPI_Status){0}; /* the library may leave parts of it unset */
-    REAL(Test)(handle, &is_complete, &done->status);
-    if (is_complete)
+    if (is_complete(handle, &done->status))
         *handle = done->handle, *own = done;
     else
         keep_done(done);
