@@ -16,7 +16,7 @@ expect_windows() {
     count=$(sed -n 's/^  \([0-9,]*\) windows\? of .* judged before the last one.*/\1/p' "$work/said")
     count=${count//,/}
     if [[ $status == "$wanted" ]] && ((${count:-0} >= least)) &&
-        cat -- "$work/said" "$work/errors" | grep -q -- "$line"; then
+        grep -q -- "$line" "$work/said" "$work/errors"; then
         echo "$name: status $status, ${count:-0} windows"
     else
         cat -- "$work/said" "$work/errors" >&2
