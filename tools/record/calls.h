@@ -169,6 +169,10 @@ void restart_numbers(void);
  * filled in, or NULL if the recording stopped. */
 Request *started(MPI_Request *handle, int number);
 
+/* The request of a handle that the program has, or NULL. A completed one of the recorder's own that the
+ * library freed, where that isn't recorded, is taken out of the table: it isn't the program's any more. */
+Request *request_of(uintptr_t handle);
+
 /* Completed requests of the recorder's own (starts.c), which the library needn't wait for. A wait for one is
  * over: its status is given, unless there is none. Its error is set if the wait may be for several. */
 MPI_Request handle_of(const struct Done *done);
