@@ -53,7 +53,7 @@ void *found_in_library(const char *name);
  * of the call, -1 until it is looked up. */
 typedef struct {
     int inside;
-    bool is_locked;
+    bool had_lock; /* when an error handler was called */
     void **frame, *caller;
     unsigned long turn;
     int site;
