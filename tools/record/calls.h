@@ -53,7 +53,7 @@ void *found_in_library(const char *name);
  * of the call, -1 until it is looked up. */
 typedef struct {
     int inside;
-    bool is_locked;
+    bool had_lock; /* when an error handler was called */
     void **frame, *caller;
     unsigned long turn;
     int site;
@@ -168,6 +168,10 @@ void restart_numbers(void);
 /* A call started a request; its number is 0 if the call has no line. Answers its entry in the table, to be
  * filled in, or NULL if the recording stopped. */
 Request *started(MPI_Request *handle, int number);
+
+/* The request of a handle that the program has, or NULL. A completed one of the recorder's own that the
+ * library freed, where that isn't recorded, is taken out of the table: it isn't the program's any more. */
+Request *request_of(uintptr_t handle);
 
 /* Completed requests of the recorder's own (starts.c), which the library needn't wait for. A wait for one is
  * over: its status is given, unless there is none. Its error is set if the wait may be for several. */

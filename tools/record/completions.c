@@ -56,7 +56,7 @@ static bool make_room(Asked *asked) {
 }
 
 static void look_at(Asked *asked, Named *named) {
-    const Request *request = requests_find(named->handle);
+    const Request *request = request_of(named->handle);
     if (request && !request->active)
         return;
     if (!request || !request->number) {

@@ -1,7 +1,7 @@
 /* Counts the calls that have no line in the journal. See journal.h. */
 #define _GNU_SOURCE
 #include "journal.h"
-#include <pthread.h>
+#include <sched.h>
 #include <string.h>
 #include <unistd.h>
 
@@ -26,7 +26,19 @@ static struct {
 } counts;
 
 static const char others[] = "other calls";
-static pthread_mutex_t counting = PTHREAD_MUTEX_INITIALIZER;
+
+/* The thread that counts, or NULL. If it is this one, a handler of a signal came meanwhile, or left it. */
+static const char *counting;
+static __thread char me __attribute__((tls_model("initial-exec")));
+
+static void begin_to_count(void) {
+    const char *none = NULL;
+    while (__atomic_load_n(&counting, __ATOMIC_RELAXED) != &me &&
+           !__atomic_compare_exchange_n(&counting, &none, &me, false, __ATOMIC_ACQUIRE, __ATOMIC_RELAXED)) {
+        none = NULL;
+        sched_yield();
+    }
+}
 
 /* Of more than the digits can say it stays the most. */
 static void count_up(char *first) {
@@ -86,7 +98,7 @@ void left_out(Meaning meaning, const char *what) {
     in_doubt = in_doubt || meaning != NOTHING;
     if (!counts.text)
         return;
-    pthread_mutex_lock(&counting);
+    begin_to_count();
     int kind = find_kind(meaning, what);
     if (kind == counts.kinds && !has_room(what))
         kind = find_kind(meaning, what = others);
@@ -95,7 +107,7 @@ void left_out(Meaning meaning, const char *what) {
     count_up(counts.kind[kind].line + 2);
     if (meaning == WAITS)
         goes_within(counts.kind[kind].line);
-    pthread_mutex_unlock(&counting);
+    __atomic_store_n(&counting, NULL, __ATOMIC_RELEASE);
 }
 
 const char *counts_open(const char *folder, int rank) {

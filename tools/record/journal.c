@@ -166,12 +166,13 @@ static bool move_window(void) {
     char *window = map_text(journal.file, start, size);
     if (!window)
         return false;
-    if (journal.window)
-        munmap(journal.window, journal.size);
+    Journal old = journal;
     journal.window = window;
     journal.start = start;
     journal.size = size;
     journal.at = window + (next - start);
+    if (old.window) /* last, since a handler of a signal may jump out of it */
+        munmap(old.window, old.size);
     return true;
 }
 
@@ -292,6 +293,13 @@ void journal_failed(void) {
     if (call.lines > 1)
         cut_from(call.first_end);
     journal_report("=failed", 0, NULL);
+}
+
+void journal_left(void) {
+    size_t room = journal.window + journal.size - journal.at;
+    if (journal.is_open)
+        memset(journal.at, '\0', room < LONGEST_LINE ? room : LONGEST_LINE);
+    journal_failed();
 }
 
 void journal_came_back(void) {

@@ -98,6 +98,9 @@ void journal_done(int number, Field source, Field tag);
 /* The call returned an error, so what it did isn't known. */
 void journal_failed(void);
 
+/* The call was left by a jump, perhaps while it wrote a line. */
+void journal_left(void);
+
 /* The call returns. It may have no line. */
 void journal_came_back(void);
 

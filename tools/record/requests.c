@@ -45,6 +45,7 @@ Request *requests_add(uintptr_t handle) {
     used += new->handle == 0;
     request_closes(new);
     free(new->template);
+    forget_done(new->done);
     *new = (Request){.handle = handle};
     return new;
 }
@@ -69,6 +70,7 @@ Request **requests_active(int *count) {
 void requests_remove(Request *request) {
     request_closes(request);
     free(request->template);
+    forget_done(request->done);
     size_t hole = request - places, mask = room - 1;
     for (size_t at = (hole + 1) & mask; places[at].handle != 0; at = (at + 1) & mask) {
         if (((at - home(places[at].handle)) & mask) >= ((at - hole) & mask)) {

@@ -52,6 +52,9 @@ Request *requests_find(uintptr_t handle);
 Request *requests_add(uintptr_t handle);
 void requests_remove(Request *request);
 
+/* The table has a completed request of the recorder's own no longer (starts.c). There may be none. */
+void forget_done(struct Done *done);
+
 /* The active ones that have a number, in the order in which they were started; NULL without memory. */
 Request **requests_active(int *count);
 

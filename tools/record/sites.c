@@ -26,7 +26,7 @@ static FILE *names;
 static int frames_wanted, sites_known;
 static bool has_python;
 
-/* Sites by a 64-bit hash of their frames. Two places with the same hash would be taken for one. */
+/* Sites by a 64-bit hash of their text. Two places with the same hash would be taken for one. */
 static struct {
     uint64_t key;
     int site;
@@ -77,9 +77,28 @@ static Direct *direct_of(const void *caller) {
     return &direct[((uintptr_t)caller * (uint64_t)0x9e3779b97f4a7c15u) >> 56];
 }
 
-void forget_sites(void) { memset(direct, 0, sizeof direct); }
+/* Other sites by their addresses, or by a hash of several. */
+enum { MOST_RECENT = 1 << 13 };
+typedef struct {
+    uint64_t key;
+    int site;
+} Recent;
+static Recent recent[MOST_RECENT];
+
+static Recent *recent_of(uint64_t key) { return &recent[(key * 0x9e3779b97f4a7c15u) >> 51]; }
+
+void forget_sites(void) {
+    memset(direct, 0, sizeof direct);
+    memset(recent, 0, sizeof recent);
+}
 
 static uint64_t mixed(uint64_t hash, uint64_t more) { return (hash ^ more) * 0x100000001b3u + 1; }
+
+static uint64_t mixed_with(uint64_t hash, const char *text) {
+    for (; *text; text++)
+        hash = mixed(hash, (unsigned char)*text);
+    return hash;
+}
 
 static void put_name(FILE *file, const char *name) {
     for (; *name; name++)
@@ -199,15 +218,36 @@ static void put_frame(void *address) {
     fprintf(sites, "+0x%lx", (unsigned long)address - base);
 }
 
-static int site_of_frames(uint64_t key, void *const frames[], int count) {
-    int *site = look_up(key, count * LONGEST_FRAME);
-    if (!site || *site || count == 0 || !is_open(&sites, &sites_file))
-        return site ? *site : 0;
+static uint64_t hash_of(void *const frames[], int count) {
+    uint64_t hash = 1;
+    for (int i = 0; i < count; i++) {
+        unsigned long base;
+        const char *name = module_at(frames[i], &base);
+        hash = mixed(mixed_with(hash, name ? name : "?"), (uintptr_t)frames[i] - base);
+    }
+    return hash;
+}
+
+static int note_frames(void *const frames[], int count) {
+    if (!is_open(&sites, &sites_file))
+        return 0;
     fprintf(sites, "%d", ++sites_known);
     for (int i = 0; i < count; i++)
         put_frame(frames[i]);
     fputc('\n', sites);
-    return *site = sites_known;
+    return sites_known;
+}
+
+static int site_of_frames(uint64_t key, void *const frames[], int count) {
+    Recent *last = recent_of(key);
+    if (last->key == key && last->site)
+        return last->site;
+    int *site = count ? look_up(hash_of(frames, count), count * LONGEST_FRAME) : NULL;
+    if (site && !*site)
+        *site = note_frames(frames, count);
+    if (site)
+        *last = (Recent){key, *site};
+    return site ? *site : 0;
 }
 
 static int site_of_machine_code(void *caller, void **frame) {
@@ -230,9 +270,7 @@ static int site_of_machine_code(void *caller, void **frame) {
 /* ------------------------------------------------------------------------------------------------ */
 
 int site_of_line(const char *file, int line) {
-    uint64_t key = mixed(2, line);
-    for (const char *at = file; *at; at++)
-        key = mixed(key, (unsigned char)*at);
+    uint64_t key = mixed_with(mixed(2, line), file);
     int *site = look_up(key, LONGEST_FRAME + 4 * strlen(file));
     if (!site || *site || !is_open(&sites, &sites_file))
         return site ? *site : 0;

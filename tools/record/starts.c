@@ -17,7 +17,8 @@ struct Done {
     MPI_Request handle;
     MPI_Status status; /* what the library's request had */
     bool is_unused;    /* no call has it */
-    struct Done *next; /* of those */
+    bool is_gone;      /* the library freed it; then it stays until nothing here has it */
+    struct Done *next; /* of those that are unused */
 };
 
 static struct Done *unused;
@@ -29,7 +30,27 @@ static int query_done(void *kept, MPI_Status *status) {
     return MPI_SUCCESS;
 }
 
-static int free_done(void *kept) { return free(kept), MPI_SUCCESS; }
+/* The program may complete it where that isn't recorded: in a function that MPI calls, or in another thread.
+ * Then the table still has it, and the library may give its handle to another request. */
+static int free_done(void *kept) {
+    __atomic_store_n(&((struct Done *)kept)->is_gone, true, __ATOMIC_RELEASE);
+    return MPI_SUCCESS;
+}
+
+static bool is_gone(const struct Done *done) { return __atomic_load_n(&done->is_gone, __ATOMIC_ACQUIRE); }
+
+void forget_done(struct Done *done) {
+    if (done && is_gone(done) && !done->is_unused)
+        free(done);
+}
+
+Request *request_of(uintptr_t handle) {
+    Request *request = requests_find(handle);
+    if (!request || !request->done || !is_gone(request->done))
+        return request;
+    requests_remove(request);
+    return NULL;
+}
 
 static int cancel_done(void *none, int complete) { return (void)none, (void)complete, MPI_SUCCESS; }
 
@@ -42,16 +63,20 @@ static struct Done *make_done(void) {
     return done;
 }
 
+/* A program may wait once more for one that is unused, by a copy of its handle, which is its error. */
 static struct Done *take_done(void) {
-    struct Done *done = unused;
-    if (!done)
-        return make_done();
-    unused = done->next;
-    done->is_unused = false;
-    return done;
+    struct Done *done;
+    while ((done = unused)) {
+        unused = done->next;
+        done->is_unused = false;
+        if (!is_gone(done))
+            return done;
+        free(done);
+    }
+    return make_done();
 }
 
-/* A program may name a request twice in one wait, which is its error. */
+/* It may also name a request twice in one wait. */
 static void keep_done(struct Done *done) {
     if (done->is_unused)
         return;
@@ -62,9 +87,10 @@ static void keep_done(struct Done *done) {
 
 void free_unused_requests(void) {
     for (struct Done *done = unused; done; done = unused) {
-        MPI_Request handle = done->handle;
         unused = done->next;
-        REAL(Request_free)(&handle); /* by `free_done' */
+        if (!is_gone(done))
+            REAL(Request_free)(&done->handle);
+        free(done);
     }
 }
 
@@ -110,7 +136,7 @@ static Request *added(MPI_Request handle) {
 
 Request *started(MPI_Request *handle, int number) {
     struct Done *done = NULL;
-    if (requests_find(bits(*handle)) && !make_distinct(handle, &done)) {
+    if (request_of(bits(*handle)) && !make_distinct(handle, &done)) {
         journal_stop("there is no memory for its requests");
         return NULL;
     }
@@ -162,7 +188,7 @@ static bool is_unknown(const Request *request) {
 
 int MPI_Request_free(MPI_Request *handle) {
     uintptr_t freed = BEGINS_QUIETLY ? bits(*handle) : 0;
-    Request *request = requests_find(freed);
+    Request *request = request_of(freed);
     if (request)
         put_each("request_free", request);
     in_doubt = in_doubt || (request && is_unknown(request));
@@ -177,7 +203,7 @@ ALSO_PMPI(Request_free)
 /* If it fails, nothing is reported of what became of the request. One of which that is already written has
  * no line: in a later window it is no receive any more. */
 int MPI_Cancel(MPI_Request *handle) {
-    Request *request = BEGINS_QUIETLY ? requests_find(bits(*handle)) : NULL;
+    Request *request = BEGINS_QUIETLY ? request_of(bits(*handle)) : NULL;
     bool is_put = request && request->active && request->number && !request->told;
     if (is_put)
         put_each("cancel", request);

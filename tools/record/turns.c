@@ -17,19 +17,21 @@ static bool is_of_first; /* the thread of MPI_Init has the turn */
 
 enum { NEAR = 1 << 16, BUSY_LOOKS = 1000, A_MOMENT = 20000 };
 
-/* The recorder's lock. It opens by a mere store, since a mutex would double what it costs. So nobody can be
- * woken then, and a thread that waits for it looks again and again: it is held for a moment only. */
-static bool is_taken;
+/* The recorder's lock: the thread that has it, or NULL. It opens by a mere store, since a mutex would double
+ * what it costs. So nobody can be woken then, and a thread that waits for it looks again and again: it is
+ * held for a moment only. */
+static const Thread *owner;
 
 static const Thread *first; /* of the thread of MPI_Init */
 static bool several;        /* MPI_THREAD_MULTIPLE: threads may call at once */
 static bool alone;          /* they did: from then on only calls of the thread of MPI_Init are recorded */
 
+static bool has_lock(void) { return __atomic_load_n(&owner, __ATOMIC_RELAXED) == &thread; }
+
 static bool try_lock(void) {
-    if (__atomic_load_n(&is_taken, __ATOMIC_RELAXED) ||
-        __atomic_exchange_n(&is_taken, true, __ATOMIC_ACQUIRE))
-        return false;
-    return thread.is_locked = true;
+    const Thread *none = NULL;
+    return !__atomic_load_n(&owner, __ATOMIC_RELAXED) &&
+           __atomic_compare_exchange_n(&owner, &none, &thread, false, __ATOMIC_ACQUIRE, __ATOMIC_RELAXED);
 }
 
 static void take_lock(void) {
@@ -38,10 +40,7 @@ static void take_lock(void) {
             clock_nanosleep(CLOCK_MONOTONIC, 0, &(struct timespec){.tv_nsec = A_MOMENT}, NULL);
 }
 
-static void give_lock(void) {
-    thread.is_locked = false;
-    __atomic_store_n(&is_taken, false, __ATOMIC_RELEASE);
-}
+static void give_lock(void) { __atomic_store_n(&owner, NULL, __ATOMIC_RELEASE); }
 
 bool another_calls(void) {
     unsigned long now = __atomic_load_n(&turn_now, __ATOMIC_RELAXED);
@@ -57,7 +56,7 @@ void turns_open(int level) {
 }
 
 bool last_turn_begins(void) {
-    if (thread.is_locked || !try_lock())
+    if (!try_lock())
         return false;
     if (recording && turn_now == 0)
         return true;
@@ -109,7 +108,8 @@ bool take_turn(void) {
         give_lock();
         return false;
     }
-    thread.turn = turn_now = ++last_turn;
+    thread.turn = ++last_turn;
+    __atomic_store_n(&turn_now, thread.turn, __ATOMIC_RELEASE);
     is_of_first = &thread == first;
     thread.site = -1;
     journal_begin();
@@ -141,15 +141,18 @@ static bool was_left(const void *caller, void **frame) {
     return frame >= thread.frame || (is_overwritten(frame) && module_of(caller) != OF_MPI);
 }
 
-/* A call that was left counts as failed, since what it did isn't known. */
+/* A call that was left counts as failed, since what it did isn't known. A handler of a signal may have left
+ * it while it had the lock, and before its turn or after it. */
 static void forget_call(void) {
     thread.inside = 0;
-    if (!has_turn())
-        return;
-    if (!thread.is_locked)
-        take_lock();
-    journal_failed();
-    end_turn();
+    if (has_turn()) {
+        if (!has_lock())
+            take_lock();
+        journal_left();
+        end_turn();
+    } else if (has_lock()) {
+        give_lock();
+    }
 }
 
 bool begins_quietly(void *caller, void *frame) {
@@ -172,7 +175,7 @@ bool begins(void *caller, void *frame) {
 }
 
 void leave_recorder(void) {
-    if (thread.inside == 1 && thread.is_locked)
+    if (thread.inside == 1 && has_lock())
         give_lock();
 }
 
@@ -213,7 +216,7 @@ bool take_barrier(MPI_Comm *comm) {
 /* Takes the lock while this thread has the turn. It doesn't block on the lock: its owner may wait for
  * something that this thread holds inside MPI. */
 static bool take_lock_of_turn(void) {
-    while (!thread.is_locked && !try_lock())
+    while (!has_lock() && !try_lock())
         if (!has_turn())
             return false;
     return has_turn();
@@ -222,12 +225,13 @@ static bool take_lock_of_turn(void) {
 /* Calls of the handler are recorded like all others. */
 Thread leave_by_error(void) {
     Thread before = thread;
+    before.had_lock = has_lock();
     if (has_turn() && take_lock_of_turn()) {
         journal_failed();
         end_turn();
     } else {
         before.turn = 0;
-        if (thread.is_locked)
+        if (has_lock())
             give_lock();
     }
     MPI_Comm comm;
@@ -241,7 +245,6 @@ Thread leave_by_error(void) {
 /* The call continues, but its lines are already complete. */
 void come_back_to_error(Thread before) {
     thread = before;
-    thread.is_locked = false;
     if (before.turn == 0)
         return;
     take_lock();
@@ -249,6 +252,6 @@ void come_back_to_error(Thread before) {
         turn_now = thread.turn;
         journal_begin();
     }
-    if (!before.is_locked)
+    if (!before.had_lock)
         give_lock();
 }

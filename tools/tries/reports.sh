@@ -91,6 +91,16 @@ is_possible() {
     esac
 }
 
+# They become words of the program.
+build_plugins() {
+    local library=$1 plugin
+    shift
+    for plugin; do
+        compile "mpicc.$library" -shared -fPIC -o "$work/$plugin.so" "$plugin.c"
+        command+=("$work/$plugin.so")
+    done
+}
+
 try_row() {
     local library=$1 report=$2 source=$3 ranks=$4 options=() name
     shift 4
@@ -103,10 +113,10 @@ try_row() {
     is_possible "$library" "$report" || { echo "$name: passed over: this library can't"; return; }
     launch "$library" "$ranks"
     build "$library" "$source" || return 0
-    if [[ $source == deep-plugin.c ]]; then
-        compile "mpicc.$library" -shared -fPIC -o "$work/plugin.so" plugin.c
-        command+=("$work/plugin.so")
-    fi
+    case $source in
+    deep-plugin.c) build_plugins "$library" plugin ;;
+    reloads.c) build_plugins "$library" plugin other-plugin ;;
+    esac
     compare "$name" "$(stored_for "$report" "$library")" ${options[@]+"${options[@]}"} "${command[@]}" "$@"
 }
 
