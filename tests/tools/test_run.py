@@ -216,6 +216,37 @@ class Again(Folders):
         done = self.by_bash('"$@"', HOME=str(self.folder), **self.checker(SAYS_FREE))
         self.assertEqual((done.returncode, done.stderr), (0, ""))
 
+    def copy_scripts(self):
+        for name in ("run", "limits", "companions"):
+            copy = shutil.copytree if (TOOLS / name).is_dir() else shutil.copy
+            copy(TOOLS / name, self.folder / name)
+
+    def test_a_signal_while_modules_are_read(self):
+        """It waits until they are: Python would end with a status of its own."""
+        self.copy_scripts()
+        text = self.read("companions/places.py")
+        for number in (signal.SIGINT, signal.SIGTERM, signal.SIGHUP):
+            self.write("companions/places.py", f"import os\nos.kill(os.getpid(), {int(number)})\n{text}")
+            for name in ("run", "limits"):
+                with self.subTest(name, number=number):
+                    words = ["env", "--default-signal=INT,TERM,HUP", self.folder / name, "x"]
+                    done = subprocess.run(words, capture_output=True, text=True, check=False)
+                    said = f"tools/{name}: it was interrupted\n"
+                    self.assertEqual((done.returncode, done.stdout, done.stderr), (4, "", said))
+
+    def test_modules_that_cannot_be_read(self):
+        """As by an old Python, or without memory: its own status would be that of a hang."""
+        self.copy_scripts()
+        for text in ("raise KeyboardInterrupt", "raise MemoryError", "from json import nothing", "a b"):
+            self.write("companions/places.py", text)
+            for name, more in (("run", ""), ("limits", ""), ("run", "2>&-"), ("run", "2>/dev/full")):
+                with self.subTest(text, name=name, more=more):
+                    words = ["bash", "-c", f'"$1" x {more}', "bash", self.folder / name]
+                    done = subprocess.run(words, capture_output=True, text=True, check=False)
+                    said = "" if more else f"tools/{name}: it can't begin (it needs Python 3.10): "
+                    self.assertEqual((done.returncode, done.stdout, done.stderr[: len(said)]), (4, "", said))
+                    self.assertNotIn("Traceback", done.stderr)
+
     def test_a_standard_error_that_is_closed_or_full(self):
         self.run_of(*BOTH)
         self.again()

@@ -97,6 +97,7 @@ def run_script(main):
         for number in SIGNALS:
             if signal.getsignal(number) != signal.SIG_IGN:  # as nohup has it
                 signal.signal(number, interrupted)
+        signal.pthread_sigmask(signal.SIG_UNBLOCK, SIGNALS)  # which `env' blocks while Python starts
         if sys.stdout is None:
             raise Stopped("there is no standard output")
         sys.stdout.reconfigure(errors="backslashreplace")
