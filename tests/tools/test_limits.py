@@ -87,7 +87,8 @@ class Limits(Folders):
 
     def test_failing(self):
         self.assertEqual(self.said("wait 3 / finalize")[0], 2)
-        self.assertEqual(self.command("limits", "none").returncode, 3)
+        for folder in ("none", "journal/journal0"):
+            self.assertEqual(self.command("limits", folder).returncode, 3)
         self.assertEqual(self.command("limits").returncode, 3)
         done = self.command("limits", ".", env=os.environ | {"MPIWAIT": "./none"})
         self.assertEqual(done.returncode, 4)

@@ -31,7 +31,7 @@ class Words(Folders):
     def test_wrong_ones(self):
         for words in ([], ["--again", "mpirun"], ["--again", "--for", "3"], ["--for", "0", "x"], ["--for", "-1", "x"],
                       ["--frames", "17", "x"], ["--mpi", "lam", "x"], ["--fast", "x"], ["--eager", "2147483648", "x"],
-                      ["--eager", "-1", "x"], ["--quiet", "no", "x"], ["--quiet", "nan", "x"], ["--for", "nan", "x"], ["--again", "--stop"], ["--for"]):  # fmt: skip
+                      ["--json", "a", "--svg", "./a", "x"], ["--eager", "-1", "x"], ["--quiet", "no", "x"], ["--quiet", "nan", "x"], ["--for", "nan", "x"], ["--again", "--stop"], ["--for"]):  # fmt: skip
             with self.subTest(words), contextlib.redirect_stderr(io.StringIO()):
                 with self.assertRaises(Stopped) as stopped:
                     run.words_of(words)
@@ -189,6 +189,9 @@ class Again(Folders):
 
     def test_a_checker_that_is_killed(self):
         self.run_of(*BOTH)
+        done = self.again(**self.checker("exit 1"))
+        self.assertEqual((done.returncode, done.stdout), (4, ""))
+        self.assertIn("checker answered by status 1 without a report", done.stderr)
         for words, said in (("kill -KILL $$", "SIGKILL"), ("exit 7", "exit status 7")):
             done = self.again(**self.checker(words))
             self.assertEqual(done.returncode, 4)
@@ -255,6 +258,13 @@ class Again(Folders):
                 with self.subTest(script, words=words):
                     done = self.by_bash(script, *words, **CHECKER)
                     self.assertEqual((done.returncode, done.stdout[:12]), (status, "verdict hang"))
+
+    def test_an_input_and_a_standard_error_that_are_closed(self):
+        """As what builds the recorder writes to the latter."""
+        words = "import subprocess; from companions import script\n" \
+            "script.run_script(lambda _: subprocess.run(['true'], stdout=2).returncode)"
+        done = subprocess.run(["bash", "-c", '"$0" -c "$1" <&- 2>&-', sys.executable, words], cwd=TOOLS)
+        self.assertEqual(done.returncode, 0)
 
     def test_help_that_cannot_be_written(self):
         for script in ('"$1" --help >/dev/full', '"$1" --help | true; exit "${PIPESTATUS[0]}"'):

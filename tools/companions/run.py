@@ -56,6 +56,8 @@ def words_of(argv):
     words.command = words.command[words.command[:1] == ["--"] :]
     if not (1 if words.limit is None else words.limit) > 0 or not words.quiet > 0:
         parser.error("--for and --quiet take a number of seconds above 0")
+    if len(set(map(os.path.abspath, words.files.values()))) < len(words.files):
+        parser.error("two outputs can't have one file")
     if not 0 <= (words.eager or 0) <= MOST_BYTES:
         parser.error(f"--eager takes a number of bytes up to {MOST_BYTES}")
     if not 0 <= (words.window or 0) <= MOST_LINES:
@@ -68,8 +70,7 @@ def words_of(argv):
         parser.error("which run? As in: tools/run mpirun -n 4 ./program; --help says more")
     given = [words.command, words.limit, words.frames is not None, words.mpi, words.strict, words.stop]
     if words.again and any([*given, words.window]):
-        parser.error("--again runs nothing: it takes no command, --for, --frames, --mpi, --strict, --stop, "
-                     "--window")  # fmt: skip
+        parser.error("--again runs nothing: no command, --for, --frames, --mpi, --strict, --stop, --window")
     return words
 
 

@@ -6,6 +6,7 @@ import subprocess
 import sys
 import tempfile
 from collections import Counter, namedtuple
+from contextlib import suppress
 from functools import lru_cache
 from pathlib import Path
 
@@ -217,7 +218,9 @@ class Judge:
             raise Stopped(f"the checker {self.path} can't be run: {fault.strerror}") from None
         if done.returncode in VERDICTS:
             sys.stderr.write(done.stderr or "")  # that the checker isn't proved
-            return Answer(done.returncode, json.loads(done.stdout))
+            with suppress(ValueError):
+                return Answer(done.returncode, json.loads(done.stdout))
+            raise Stopped(f"the checker {self.path} answered by status {done.returncode} without a report")
         status = done.returncode if done.returncode in (Status.REFUSED, Status.WORDS) else 4
         said = (done.stdout + (done.stderr or "")).strip()
         return Answer(status, None, said or str(subprocess.CalledProcessError(done.returncode, self.path)))

@@ -92,6 +92,7 @@ def why_of(fault):
 
 def run_script(main):
     """Runs a script and ends it: with 4, if a file, the output or what it was given fails it."""
+    sys.stdin = sys.stdin or open(os.devnull, encoding="ascii")  # first: it takes the number of its place
     sys.stderr, status = sys.stderr or open(os.devnull, "w", encoding="ascii"), 0
     try:
         for number in SIGNALS:
