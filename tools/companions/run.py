@@ -27,9 +27,9 @@ LINES, MOST_LINES = 200_000, 800_000
 LIMITS = """Finds the least N of --eager N at which a recorded run can't hang. FOLDER is that of tools/run.
 
 It judges by 0 and by sizes of standard sends, since between two of these no verdict changes: by halves, or
-all if ranks were cut off. The status is 0 if some limit is free, else 1; 2, 3 and 4 are as for tools/run.
-Of windows it judges those that are kept. It is 6 if others weren't judged strictly with that limit, or calls
-weren't recorded that recorded ones may match."""
+all if ranks were cut off. The status is 0 if some limit is free, else 1 if some hangs, else 5; 2, 3 and 4
+are as for tools/run. Of windows it judges those that are kept. The status is 6 if others weren't judged
+strictly with that limit, or calls weren't recorded that recorded ones may match."""
 
 
 def words_of(argv):
@@ -139,8 +139,8 @@ def main(argv):
 
 
 def try_limits(runs):
-    """Judges runs, or their windows, with limits, and prints each verdict. Answers those that are free."""
-    journals, judge, free = [one for run in runs for one in run.journals], Judge(), []
+    """Judges runs or windows by limits, and prints verdicts. Answers those that are free, and the status."""
+    journals, judge, tried = [one for run in runs for one in run.journals], Judge(), {}
     sizes = sorted({0}.union(*(one.sizes() for one in journals)))
     has_ended = all(run.has_ended for run in runs)
 
@@ -152,7 +152,7 @@ def try_limits(runs):
             print(answer.said, flush=True)
             raise Stopped("this run can't be judged", answer.status)
         print(f"{'none' if limit is None else limit:<7} {VERDICTS[answer.status]}", flush=True)
-        free.extend([limit] if answer.status == Status.FREE else [])
+        tried[limit] = answer.status
         return answer.status == Status.FREE
 
     print("limit   verdict")
@@ -160,21 +160,24 @@ def try_limits(runs):
         bisect.bisect_left(sizes, True, key=is_free)
     elif not has_ended:
         list(map(is_free, sizes))
-    return free
+    free = [limit for limit, status in tried.items() if status == Status.FREE]
+    return free, Status.FREE if free else worst(tried.values())
 
 
 def limits_main(argv):
     parser = Words(LIMITS, prog="limits")
     parser.add_argument("folder", metavar="FOLDER", type=Path)
     folder = parser.parse_args(argv).folder
-    folder = folder / "journal" if (folder / "journal").is_dir() else folder
+    if (folder / "journal").is_dir():
+        hold(folder)
+        folder = folder / "journal"
     tops = runs_in(folder)
     if folder not in tops:
         raise Stopped(f"{folder} has no journals", Status.WORDS)
     runs = [run for top in tops for run in kept_runs(top)]
     if any(run.count("P") for run in runs):
         raise Stopped("recorded calls may match calls that weren't recorded", Status.NOT_JUDGED)
-    free = try_limits(runs)
+    free, status = try_limits(runs)
     least = None if not free or None in free else min(free)
     unjudged = sum(Windows(top, None, eager=least).unjudged() for top in tops) if free else 0
     if unjudged:
@@ -185,4 +188,4 @@ def limits_main(argv):
         print("the verdict is free without a limit" if free else "no limit has the verdict free")
     else:
         print(f"the least limit with the verdict free is {least}")
-    return Status.FREE if free else Status.HANG
+    return status
