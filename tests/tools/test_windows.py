@@ -5,8 +5,10 @@ import io
 import json
 import os
 import shutil
+import signal
 import subprocess
 import sys
+import time
 import unittest
 from pathlib import Path
 from socket import gethostname
@@ -82,6 +84,31 @@ class Closed(Cut):
         self.assertEqual(self.judged(FREE).count("judged"), 0)
         self.again()
         self.assertEqual(self.judged(FREE, LAST).count("judged"), 1)
+
+
+class Interrupted(Cut):
+    def test_a_signal_while_windows_are_judged(self):
+        """It ends the checker, no other one begins, and all windows stay."""
+        self.put(FREE, FREE, FREE, LAST)
+        self.write("checker", f"#!/bin/sh\necho $$ >>'{self.folder}/begun'\nexec sleep 600\n")
+        (self.folder / "checker").chmod(0o755)
+        text = "from pathlib import Path; from companions import runs, script, windows\n" \
+            f"one = windows.Judging(Path({str(self.folder / 'journal')!r}), runs.Judge(nice=1), False, None)\n" \
+            "script.run_script(lambda _: (one.thread.start(), one.end()))"
+        environment = os.environ | {"MPIWAIT": str(self.folder / "checker")}
+        words = ["env", "--default-signal=TERM", sys.executable, "-c", text]
+        running = subprocess.Popen(words, cwd=TOP / "tools", env=environment, stderr=subprocess.PIPE, text=True)
+        until = time.monotonic() + 30
+        while not (self.folder / "begun").exists() and time.monotonic() < until:
+            time.sleep(0.05)
+        running.terminate()
+        _, said = running.communicate(timeout=30)
+        begun = self.read("begun").split()
+        left = [one for one in begun if Path(f"/proc/{one}").exists()]
+        for one in left:
+            os.kill(int(one), signal.SIGKILL)
+        self.assertEqual((running.returncode, said, left), (4, "tools/-c: it was interrupted\n", []))
+        self.assertEqual((len(begun), self.there()), (1, [1, 2, 3, 4]))
 
 
 class Judged(Cut):

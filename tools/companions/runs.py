@@ -12,7 +12,7 @@ from pathlib import Path
 
 from .journals import COUNTED, RECEIVES, STANDARD, Call, journals_in, top_of, written
 from .places import Places, printable
-from .script import HERE, Status, Stopped, worst
+from .script import ENDING, HERE, Status, Stopped, worst
 
 MOST_BYTES = 2147483647
 VERDICTS = {0: "free", 1: "hang", 5: "unfinished"}
@@ -213,9 +213,11 @@ class Judge:
         """Judges the journals of a folder. It is named from there, since the program takes UTF-8 alone."""
         words = [f"--{name}={value}" for name, value in options.items() if value is not None]
         try:
-            done = self.run([*self.words, "judge", "--json", *words, "."], folder)
+            done = None if ENDING else self.run([*self.words, "judge", "--json", *words, "."], folder)
         except OSError as fault:
             raise Stopped(f"the checker {self.path} can't be run: {fault.strerror}") from None
+        if ENDING:
+            raise Stopped("it was interrupted")
         if done.returncode in VERDICTS:
             sys.stderr.write(done.stderr or "")  # that the checker isn't proved
             with suppress(ValueError):

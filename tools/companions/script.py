@@ -18,6 +18,7 @@ Status = IntEnum("S", "FREE HANG REFUSED WORDS IMPOSSIBLE UNFINISHED NOT_JUDGED 
 MOST = 12  # lines of one section, and parts of a list of ranks
 ORDER = "432167580"  # of several statuses the first of these is the script's
 SIGNALS = (signal.SIGINT, signal.SIGTERM, signal.SIGHUP)
+ENDING = []  # the signal that ends the script: from then on no thread starts anything
 
 
 def worst(statuses):
@@ -73,11 +74,13 @@ def end_tree(root, without_root=False):
             tree = [process for process in tree if fields_of(process)[0] not in "ZX"]
 
 
-def interrupted(*_):
+def interrupted(ending, _):
     """A signal ends what the script has started, also in other sessions, and then the script."""
     for number in SIGNALS:
         signal.signal(number, signal.SIG_IGN)
-    end_tree(os.getpid(), without_root=True)
+    ENDING.append(ending)
+    for _ in range(2):  # a thread may start something meanwhile, once
+        end_tree(os.getpid(), without_root=True)
     raise KeyboardInterrupt
 
 

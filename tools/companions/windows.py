@@ -15,7 +15,7 @@ from contextlib import suppress
 from .journals import is_closed, journals_in, windows_in
 from .outputs import runs_in
 from .runs import Run
-from .script import Status, Stopped, plural, say, why_of
+from .script import ENDING, Status, Stopped, plural, say, why_of
 from .story import Story
 
 MOST_WAITING, PAUSE = 8, 0.1  # closed windows; seconds
@@ -84,6 +84,8 @@ class Windows:
             found = Counter(calls=sum(one.count() for one in journals), judged=1)
             found[(self.judge_strictly if self.first is None else self.judge_as_it_went)(number)] += 1
         except Exception as fault:
+            if ENDING:  # the window stays
+                return False
             say(f"window {number} can't be judged: {why_of(fault)}")
             found = Counter(failed=1)
         self.remove(number, found)
