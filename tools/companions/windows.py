@@ -134,8 +134,15 @@ class Windows:
         strictly = sum(self.gone[what] for what in ("free", "by_tests", "different"))
         return strictly * is_less + self.gone["later"] * (self.first is None)
 
+    def missing(self):
+        """How many are neither there nor noted, as of a recording in part: a window is closed once
+        the next one is there."""
+        numbers = windows_in(self.folder) or [0]
+        known = len(numbers) + sum(self.gone[what] for what in ("judged", "removed", "failed"))
+        return max(0, numbers[-1] + is_closed(self.folder / str(numbers[-1])) - known)
+
     def unjudged(self):
-        return self.count("removed") + self.count("failed") + self.judged_otherwise()
+        return self.count("removed") + self.count("failed") + self.judged_otherwise() + self.missing()
 
     def counts(self):
         counts = {what: self.count(what) for what in ("judged", "calls")}
@@ -152,6 +159,8 @@ class Windows:
         for count, what in ((self.count("removed"), REMOVED), (self.judged_otherwise(), OTHERWISE)):
             yield from [f"{plural(count, 'window was', 'windows were')} {what}"] if count else []
         yield from [f"{plural(failed, 'window')} couldn't be judged"] if failed else []
+        missing = plural(self.missing(), "window of the recording isn't", "windows of the recording aren't")
+        yield from [f"{missing} there"] if self.missing() else []
         yield from self.odd
 
     def stories(self, judge, name, **more):
