@@ -93,6 +93,8 @@ class Again(Folders):
         self.assertEqual(done.returncode, 4)
         self.assertIn("verdict hang", done.stdout)
         self.assertIn("none/a.json", done.stderr)
+        done = self.again("--json", "a.json", "--junit", "/dev/full")
+        self.assertEqual((done.returncode, done.stderr), (4, "tools/run: /dev/full: No space left on device\n"))
 
     def test_what_an_earlier_run_wrote_does_not_stay(self):
         """A run in which nobody waits has no picture, and one that isn't judged has nothing."""
