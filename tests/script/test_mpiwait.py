@@ -201,6 +201,12 @@ class Script(unittest.TestCase):
             self.assertEqual(self.run_script("--unproved", "run"), (4, "", "mpiwait: it was interrupted\n"))
         self.assertEqual(list(kept.iterdir()), [])
 
+    def test_a_signal_while_python_starts(self):
+        """It waits until modules are read: Python would end with a status of its own."""
+        more = "import os, signal\nos.kill(os.getpid(), signal.SIGINT)\n"
+        (self.top / "tools/companions/tempfile.py").write_text(more)
+        self.assertEqual(self.run_script("--unproved", "run"), (4, "", "mpiwait: it was interrupted\n"))
+
     def test_without_rt_the_status_is_3(self):
         tools = self.folder / "tools"
         tools.mkdir()

@@ -163,6 +163,13 @@ class Documents(unittest.TestCase):
         for what in ("datatypes and counts", "never freed", "other matches of a wildcard"):
             self.assertIn(what, item)
 
+    def test_each_script_of_bench_says_its_words(self):
+        for path in sorted((TOP / "bench").iterdir()):
+            if path.is_file() and path.stat().st_mode & 0o100:
+                done = subprocess.run([path, "--help"], check=False, capture_output=True, text=True)
+                self.assertEqual((done.returncode, done.stderr, f"bench/{path.name} " in done.stdout or "usage:" in done.stdout),
+                                 (0, "", True), path.name)  # fmt: skip
+
     def test_links(self):
         self.each(line for name in documents() for line in broken_links(name))
 

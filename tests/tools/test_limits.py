@@ -1,5 +1,6 @@
 """The least size of buffered messages at which a run can't hang."""
 
+import fcntl
 import os
 import unittest
 from unittest import mock
@@ -38,7 +39,7 @@ class Limits(Folders):
             "companions.run.Judge", return_value=mock.Mock(ask=lambda folder, eager: ask(folder, eager))
         ):
             with mock.patch("builtins.print"):
-                free = run.try_limits(run.kept_runs(self.folder / "journal"))
+                free, _ = run.try_limits(run.kept_runs(self.folder / "journal"))
         self.assertEqual(min(free), 77)
         self.assertLessEqual(len(asked), 11)
 
@@ -47,6 +48,22 @@ class Limits(Folders):
         self.assertEqual(
             (code, [line.split()[0] for line in text.split("\n")[1:5]]), (1, ["none", "0", "4", "8"])
         )
+
+    def test_a_run_that_hangs_at_none(self):
+        runs = [mock.Mock(has_ended=False, journals=[mock.Mock(sizes=lambda: {4})])]
+        for hangs, status in ((), 5), ((None, 0), 1):
+            answer = lambda _, eager, hangs=hangs: Answer(1 if eager in hangs else 5, {})  # noqa: E731
+            with mock.patch("companions.run.Judge", return_value=mock.Mock(ask=answer)), mock.patch("builtins.print"):
+                self.assertEqual(run.try_limits(runs), ([], status))
+
+    def test_a_folder_in_use(self):
+        self.run_of("finalize")
+        held = os.open(self.folder, os.O_RDONLY)
+        self.addCleanup(os.close, held)
+        fcntl.flock(held, fcntl.LOCK_EX)
+        done = self.command("limits", ".", env=os.environ | CHECKER)
+        self.assertEqual((done.returncode, done.stdout), (3, ""))
+        self.assertIn("another tools/run has . in use", done.stderr)
 
     def test_free_without_a_limit(self):
         table = "limit   verdict\nnone    free\nthe verdict is free without a limit\n"
@@ -87,7 +104,8 @@ class Limits(Folders):
 
     def test_failing(self):
         self.assertEqual(self.said("wait 3 / finalize")[0], 2)
-        self.assertEqual(self.command("limits", "none").returncode, 3)
+        for folder in ("none", "journal/journal0"):
+            self.assertEqual(self.command("limits", folder).returncode, 3)
         self.assertEqual(self.command("limits").returncode, 3)
         done = self.command("limits", ".", env=os.environ | {"MPIWAIT": "./none"})
         self.assertEqual(done.returncode, 4)

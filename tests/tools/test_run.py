@@ -31,7 +31,7 @@ class Words(Folders):
     def test_wrong_ones(self):
         for words in ([], ["--again", "mpirun"], ["--again", "--for", "3"], ["--for", "0", "x"], ["--for", "-1", "x"],
                       ["--frames", "17", "x"], ["--mpi", "lam", "x"], ["--fast", "x"], ["--eager", "2147483648", "x"],
-                      ["--eager", "-1", "x"], ["--quiet", "no", "x"], ["--quiet", "nan", "x"], ["--for", "nan", "x"], ["--again", "--stop"], ["--for"]):  # fmt: skip
+                      ["--json", "a", "--svg", "./a", "x"], ["--eager", "-1", "x"], ["--quiet", "no", "x"], ["--quiet", "nan", "x"], ["--for", "nan", "x"], ["--again", "--stop"], ["--for"]):  # fmt: skip
             with self.subTest(words), contextlib.redirect_stderr(io.StringIO()):
                 with self.assertRaises(Stopped) as stopped:
                     run.words_of(words)
@@ -93,6 +93,8 @@ class Again(Folders):
         self.assertEqual(done.returncode, 4)
         self.assertIn("verdict hang", done.stdout)
         self.assertIn("none/a.json", done.stderr)
+        done = self.again("--json", "a.json", "--junit", "/dev/full")
+        self.assertEqual((done.returncode, done.stderr), (4, "tools/run: /dev/full: No space left on device\n"))
 
     def test_what_an_earlier_run_wrote_does_not_stay(self):
         """A run in which nobody waits has no picture, and one that isn't judged has nothing."""
@@ -189,6 +191,9 @@ class Again(Folders):
 
     def test_a_checker_that_is_killed(self):
         self.run_of(*BOTH)
+        done = self.again(**self.checker("exit 1"))
+        self.assertEqual((done.returncode, done.stdout), (4, ""))
+        self.assertIn("checker answered by status 1 without a report", done.stderr)
         for words, said in (("kill -KILL $$", "SIGKILL"), ("exit 7", "exit status 7")):
             done = self.again(**self.checker(words))
             self.assertEqual(done.returncode, 4)
@@ -216,6 +221,37 @@ class Again(Folders):
         done = self.by_bash('"$@"', HOME=str(self.folder), **self.checker(SAYS_FREE))
         self.assertEqual((done.returncode, done.stderr), (0, ""))
 
+    def copy_scripts(self):
+        for name in ("run", "limits", "companions"):
+            copy = shutil.copytree if (TOOLS / name).is_dir() else shutil.copy
+            copy(TOOLS / name, self.folder / name)
+
+    def test_a_signal_while_modules_are_read(self):
+        """It waits until they are: Python would end with a status of its own."""
+        self.copy_scripts()
+        text = self.read("companions/places.py")
+        for number in (signal.SIGINT, signal.SIGTERM, signal.SIGHUP):
+            self.write("companions/places.py", f"import os\nos.kill(os.getpid(), {int(number)})\n{text}")
+            for name in ("run", "limits"):
+                with self.subTest(name, number=number):
+                    words = ["env", "--default-signal=INT,TERM,HUP", self.folder / name, "x"]
+                    done = subprocess.run(words, capture_output=True, text=True, check=False)
+                    said = f"tools/{name}: it was interrupted\n"
+                    self.assertEqual((done.returncode, done.stdout, done.stderr), (4, "", said))
+
+    def test_modules_that_cannot_be_read(self):
+        """As by an old Python, or without memory: its own status would be that of a hang."""
+        self.copy_scripts()
+        for text in ("raise KeyboardInterrupt", "raise MemoryError", "from json import nothing", "a b"):
+            self.write("companions/places.py", text)
+            for name, more in (("run", ""), ("limits", ""), ("run", "2>&-"), ("run", "2>/dev/full")):
+                with self.subTest(text, name=name, more=more):
+                    words = ["bash", "-c", f'"$1" x {more}', "bash", self.folder / name]
+                    done = subprocess.run(words, capture_output=True, text=True, check=False)
+                    said = "" if more else f"tools/{name}: it can't begin (it needs Python 3.10): "
+                    self.assertEqual((done.returncode, done.stdout, done.stderr[: len(said)]), (4, "", said))
+                    self.assertNotIn("Traceback", done.stderr)
+
     def test_a_standard_error_that_is_closed_or_full(self):
         self.run_of(*BOTH)
         self.again()
@@ -224,6 +260,13 @@ class Again(Folders):
                 with self.subTest(script, words=words):
                     done = self.by_bash(script, *words, **CHECKER)
                     self.assertEqual((done.returncode, done.stdout[:12]), (status, "verdict hang"))
+
+    def test_an_input_and_a_standard_error_that_are_closed(self):
+        """As what builds the recorder writes to the latter."""
+        words = "import subprocess; from companions import script\n" \
+            "script.run_script(lambda _: subprocess.run(['true'], stdout=2).returncode)"
+        done = subprocess.run(["bash", "-c", '"$0" -c "$1" <&- 2>&-', sys.executable, words], cwd=TOOLS)
+        self.assertEqual(done.returncode, 0)
 
     def test_help_that_cannot_be_written(self):
         for script in ('"$1" --help >/dev/full', '"$1" --help | true; exit "${PIPESTATUS[0]}"'):

@@ -5,7 +5,7 @@ import unittest
 
 from support import TOOLS, TOP
 
-MOST_LINES, MOST_IN_A_FUNCTION, MOST_COLUMNS, MOST_IN_BENCH = 2260, 40, 110, 120
+MOST_LINES, MOST_IN_A_FUNCTION, MOST_COLUMNS, MOST_IN_BENCH = 2300, 40, 110, 120
 
 
 def is_script(path):
@@ -55,10 +55,10 @@ class Sizes(unittest.TestCase):
                 self.assertNotIn(".data", path.read_text("utf-8"), path)
 
     def test_commands_have_no_code_of_their_own(self):
-        """All of it is in one package."""
+        """All of it is in one package, but for what they say if that can't be read."""
         commands = {path.name: path.read_text("utf-8") for path in scripts() if path.parent == TOOLS}
         self.assertEqual(sorted(commands), ["limits", "run", "try"])
-        self.assertLessEqual({commands[name].count("\n") for name in ("limits", "run")}, {4})
+        self.assertLessEqual({commands[name].count("\n") for name in ("limits", "run")}, {11})
 
     def test_the_script_at_the_top(self):
         self.assertLessEqual((TOP / "mpiwait").read_bytes().count(b"\n"), 90)

@@ -5,8 +5,10 @@ import io
 import json
 import os
 import shutil
+import signal
 import subprocess
 import sys
+import time
 import unittest
 from pathlib import Path
 from socket import gethostname
@@ -82,6 +84,31 @@ class Closed(Cut):
         self.assertEqual(self.judged(FREE).count("judged"), 0)
         self.again()
         self.assertEqual(self.judged(FREE, LAST).count("judged"), 1)
+
+
+class Interrupted(Cut):
+    def test_a_signal_while_windows_are_judged(self):
+        """It ends the checker, no other one begins, and all windows stay."""
+        self.put(FREE, FREE, FREE, LAST)
+        self.write("checker", f"#!/bin/sh\necho $$ >>'{self.folder}/begun'\nexec sleep 600\n")
+        (self.folder / "checker").chmod(0o755)
+        text = "from pathlib import Path; from companions import runs, script, windows\n" \
+            f"one = windows.Judging(Path({str(self.folder / 'journal')!r}), runs.Judge(nice=1), False, None)\n" \
+            "script.run_script(lambda _: (one.thread.start(), one.end()))"
+        environment = os.environ | {"MPIWAIT": str(self.folder / "checker")}
+        words = ["env", "--default-signal=TERM", sys.executable, "-c", text]
+        running = subprocess.Popen(words, cwd=TOP / "tools", env=environment, stderr=subprocess.PIPE, text=True)
+        until = time.monotonic() + 30
+        while not (self.folder / "begun").exists() and time.monotonic() < until:
+            time.sleep(0.05)
+        running.terminate()
+        _, said = running.communicate(timeout=30)
+        begun = self.read("begun").split()
+        left = [one for one in begun if Path(f"/proc/{one}").exists()]
+        for one in left:
+            os.kill(int(one), signal.SIGKILL)
+        self.assertEqual((running.returncode, said, left), (4, "tools/-c: it was interrupted\n", []))
+        self.assertEqual((len(begun), self.there()), (1, [1, 2, 3, 4]))
 
 
 class Judged(Cut):
@@ -229,7 +256,7 @@ class Reports(Cut):
         found = self.judged(FREE, LAST)
         found.gone["removed"] = 2
         for ranks, status, title in (
-            (LAST, 6, "not judged: 2 earlier windows weren't (without these: free: "),
+            (LAST, 6, "not judged: 2 windows weren't (without these: free: "),
             (STUCK, 1, "verdict hang: 2 of 2 ranks wait"),
         ):
             with self.subTest(ranks):
@@ -357,12 +384,24 @@ class Commands(Cut):
 
     def test_again(self):
         self.keep(FREE, HANG, None, LAST)
+        self.write("mpiwait-run/journal/windows", '{"judged": 1, "calls": 4, "later": 1}\n')
         done = self.command("run", "--again", "--json", "a.json", env=os.environ | CHECKER)
         self.assertEqual(done.returncode, 1, done.stderr)
         self.assertTrue(done.stdout.startswith("Window 2, the first that isn't free\n"), done.stdout)
         found = json.loads(self.read("a-2.json"))["windows"]
-        self.assertEqual(found, {"judged": 2, "calls": 8, "unjudged": 0, "first": 2, "different": None})
+        self.assertEqual(found, {"judged": 3, "calls": 12, "unjudged": 0, "first": 2, "different": None})
         self.assertEqual(windows_in(self.folder / "mpiwait-run/journal"), [1, 2, 4])
+
+    def test_again_of_a_recording_that_is_not_whole(self):
+        """A window lacks before others, or the one that was begun before the last one here was closed."""
+        for all_windows in ((None, LAST), (FREE, None, LAST), (FREE,)):
+            with self.subTest(all_windows):
+                self.again()
+                self.keep(*all_windows)
+                done = self.command("run", "--again", env=os.environ | CHECKER)
+                self.assertEqual(done.returncode, 6, done.stderr)
+                self.assertIn("1 window of the recording isn't there", done.stdout)
+                self.assertEqual(self.command("limits", "mpiwait-run", env=os.environ | CHECKER).returncode, 6)
 
     def test_again_after_windows_were_removed(self):
         self.keep(None, LAST)
@@ -411,13 +450,13 @@ class Commands(Cut):
     def test_limits(self):
         least = (0, "the least limit with the verdict free is 4")
         self.assertEqual(self.limits(FREE, HANG, LAST), least)
-        self.assertEqual(self.limits(None, HANG, LAST, noted='{"free": 1}'), least)
-        self.assertEqual(self.limits(None, HANG, LAST, noted='{"free": 1, "eager": 4}'), least)
+        self.assertEqual(self.limits(None, HANG, LAST, noted='{"judged": 1, "free": 1}'), least)
+        self.assertEqual(self.limits(None, HANG, LAST, noted='{"judged": 1, "free": 1, "eager": 4}'), least)
         self.assertEqual(self.limits(HANG, FREE, noted='{"removed": 2}'),
                          (6, "2 windows that are gone may hang: tools/run --keep keeps all"))  # fmt: skip
         gone = (6, "1 window that is gone may hang: tools/run --keep keeps all")
-        self.assertEqual(self.limits(None, HANG, LAST, noted='{"free": 1, "eager": 8}'), gone)
-        self.assertEqual(self.limits(HANG, None, LAST, noted='{"later": 1}'), gone)
+        self.assertEqual(self.limits(None, HANG, LAST, noted='{"judged": 1, "free": 1, "eager": 8}'), gone)
+        self.assertEqual(self.limits(HANG, None, LAST, noted='{"judged": 1, "later": 1}'), gone)
 
     def test_words(self):
         for words in (["--window", "-1", "x"], ["--window", "900000", "x"], ["--window", "9", "--unproved", "x"],

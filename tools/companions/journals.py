@@ -74,7 +74,7 @@ class Header:
 
 def windows_in(folder):
     """The numbers of the windows that are there; they have folders of their own in that of the run."""
-    with suppress(FileNotFoundError), os.scandir(folder) as found:
+    with suppress(FileNotFoundError, NotADirectoryError), os.scandir(folder) as found:
         return sorted(int(one.name) for one in found if one.name.isdecimal() and one.is_dir())
     return []
 

@@ -239,7 +239,7 @@ def write_outputs(stories, files):
                 if text is not None:
                     path.write_text(text, encoding="utf-8", errors="backslashreplace")
             except (OSError, Stopped) as fault:
-                faults.append(why_of(fault))
+                faults.append(f"{path}: {getattr(fault, 'strerror', None) or why_of(fault)}")
     return faults
 
 

@@ -20,16 +20,17 @@ TEXT = """Records a run of an MPI program, judges it, and reports which calls wa
     tools/run [OPTIONS] mpirun -n 4 ./program
     tools/run [OPTIONS] --again
 
-The status is 0 free, 1 hang, 2 refused, 3 words or installation, 4 nothing could be judged, 5 unfinished,
-6 not judged, 7 calls or roots of one collective differ, 8 the program failed. MPIWAIT names a checker."""
+The status is 0 free, 1 hang, 2 refused, 3 words, folder or installation, 4 something couldn't be recorded,
+judged or written, 5 unfinished, 6 not judged, 7 calls or roots of one collective differ, 8 the program
+failed. MPIWAIT names a checker."""
 # The lines of a window, by default and at most; a journal has 1,000,000 calls. With 0 there are no windows.
 LINES, MOST_LINES = 200_000, 800_000
 LIMITS = """Finds the least N of --eager N at which a recorded run can't hang. FOLDER is that of tools/run.
 
 It judges by 0 and by sizes of standard sends, since between two of these no verdict changes: by halves, or
-all if ranks were cut off. The status is 0 if some limit is free, else 1; 2, 3 and 4 are as for tools/run.
-Of windows it judges those that are kept. It is 6 if others weren't judged strictly with that limit, or calls
-weren't recorded that recorded ones may match."""
+all if ranks were cut off. The status is 0 if some limit is free, else 1 if some hangs, else 5; 2, 3 and 4
+are as for tools/run. Of windows it judges those that are kept. The status is 6 if others weren't judged
+strictly with that limit, or calls weren't recorded that recorded ones may match."""
 
 
 def words_of(argv):
@@ -56,6 +57,8 @@ def words_of(argv):
     words.command = words.command[words.command[:1] == ["--"] :]
     if not (1 if words.limit is None else words.limit) > 0 or not words.quiet > 0:
         parser.error("--for and --quiet take a number of seconds above 0")
+    if len(set(map(os.path.abspath, words.files.values()))) < len(words.files):
+        parser.error("two outputs can't have one file")
     if not 0 <= (words.eager or 0) <= MOST_BYTES:
         parser.error(f"--eager takes a number of bytes up to {MOST_BYTES}")
     if not 0 <= (words.window or 0) <= MOST_LINES:
@@ -68,8 +71,7 @@ def words_of(argv):
         parser.error("which run? As in: tools/run mpirun -n 4 ./program; --help says more")
     given = [words.command, words.limit, words.frames is not None, words.mpi, words.strict, words.stop]
     if words.again and any([*given, words.window]):
-        parser.error("--again runs nothing: it takes no command, --for, --frames, --mpi, --strict, --stop, "
-                     "--window")  # fmt: skip
+        parser.error("--again runs nothing: no command, --for, --frames, --mpi, --strict, --stop, --window")
     return words
 
 
@@ -138,8 +140,8 @@ def main(argv):
 
 
 def try_limits(runs):
-    """Judges runs, or their windows, with limits, and prints each verdict. Answers those that are free."""
-    journals, judge, free = [one for run in runs for one in run.journals], Judge(), []
+    """Judges runs or windows by limits, and prints verdicts. Answers those that are free, and the status."""
+    journals, judge, tried = [one for run in runs for one in run.journals], Judge(), {}
     sizes = sorted({0}.union(*(one.sizes() for one in journals)))
     has_ended = all(run.has_ended for run in runs)
 
@@ -151,7 +153,7 @@ def try_limits(runs):
             print(answer.said, flush=True)
             raise Stopped("this run can't be judged", answer.status)
         print(f"{'none' if limit is None else limit:<7} {VERDICTS[answer.status]}", flush=True)
-        free.extend([limit] if answer.status == Status.FREE else [])
+        tried[limit] = answer.status
         return answer.status == Status.FREE
 
     print("limit   verdict")
@@ -159,21 +161,24 @@ def try_limits(runs):
         bisect.bisect_left(sizes, True, key=is_free)
     elif not has_ended:
         list(map(is_free, sizes))
-    return free
+    free = [limit for limit, status in tried.items() if status == Status.FREE]
+    return free, Status.FREE if free else worst(tried.values())
 
 
 def limits_main(argv):
     parser = Words(LIMITS, prog="limits")
     parser.add_argument("folder", metavar="FOLDER", type=Path)
     folder = parser.parse_args(argv).folder
-    folder = folder / "journal" if (folder / "journal").is_dir() else folder
+    if (folder / "journal").is_dir():
+        hold(folder)
+        folder = folder / "journal"
     tops = runs_in(folder)
     if folder not in tops:
         raise Stopped(f"{folder} has no journals", Status.WORDS)
     runs = [run for top in tops for run in kept_runs(top)]
     if any(run.count("P") for run in runs):
         raise Stopped("recorded calls may match calls that weren't recorded", Status.NOT_JUDGED)
-    free = try_limits(runs)
+    free, status = try_limits(runs)
     least = None if not free or None in free else min(free)
     unjudged = sum(Windows(top, None, eager=least).unjudged() for top in tops) if free else 0
     if unjudged:
@@ -184,4 +189,4 @@ def limits_main(argv):
         print("the verdict is free without a limit" if free else "no limit has the verdict free")
     else:
         print(f"the least limit with the verdict free is {least}")
-    return Status.FREE if free else Status.HANG
+    return status

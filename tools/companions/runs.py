@@ -6,12 +6,13 @@ import subprocess
 import sys
 import tempfile
 from collections import Counter, namedtuple
+from contextlib import suppress
 from functools import lru_cache
 from pathlib import Path
 
 from .journals import COUNTED, RECEIVES, STANDARD, Call, journals_in, top_of, written
 from .places import Places, printable
-from .script import HERE, Status, Stopped, worst
+from .script import ENDING, HERE, Status, Stopped, worst
 
 MOST_BYTES = 2147483647
 VERDICTS = {0: "free", 1: "hang", 5: "unfinished"}
@@ -212,12 +213,16 @@ class Judge:
         """Judges the journals of a folder. It is named from there, since the program takes UTF-8 alone."""
         words = [f"--{name}={value}" for name, value in options.items() if value is not None]
         try:
-            done = self.run([*self.words, "judge", "--json", *words, "."], folder)
+            done = None if ENDING else self.run([*self.words, "judge", "--json", *words, "."], folder)
         except OSError as fault:
             raise Stopped(f"the checker {self.path} can't be run: {fault.strerror}") from None
+        if ENDING:
+            raise Stopped("it was interrupted")
         if done.returncode in VERDICTS:
             sys.stderr.write(done.stderr or "")  # that the checker isn't proved
-            return Answer(done.returncode, json.loads(done.stdout))
+            with suppress(ValueError):
+                return Answer(done.returncode, json.loads(done.stdout))
+            raise Stopped(f"the checker {self.path} answered by status {done.returncode} without a report")
         status = done.returncode if done.returncode in (Status.REFUSED, Status.WORDS) else 4
         said = (done.stdout + (done.stderr or "")).strip()
         return Answer(status, None, said or str(subprocess.CalledProcessError(done.returncode, self.path)))

@@ -18,6 +18,7 @@ Status = IntEnum("S", "FREE HANG REFUSED WORDS IMPOSSIBLE UNFINISHED NOT_JUDGED 
 MOST = 12  # lines of one section, and parts of a list of ranks
 ORDER = "432167580"  # of several statuses the first of these is the script's
 SIGNALS = (signal.SIGINT, signal.SIGTERM, signal.SIGHUP)
+ENDING = []  # the signal that ends the script: from then on no thread starts anything
 
 
 def worst(statuses):
@@ -73,11 +74,13 @@ def end_tree(root, without_root=False):
             tree = [process for process in tree if fields_of(process)[0] not in "ZX"]
 
 
-def interrupted(*_):
+def interrupted(ending, _):
     """A signal ends what the script has started, also in other sessions, and then the script."""
     for number in SIGNALS:
         signal.signal(number, signal.SIG_IGN)
-    end_tree(os.getpid(), without_root=True)
+    ENDING.append(ending)
+    for _ in range(2):  # a thread may start something meanwhile, once
+        end_tree(os.getpid(), without_root=True)
     raise KeyboardInterrupt
 
 
@@ -92,11 +95,13 @@ def why_of(fault):
 
 def run_script(main):
     """Runs a script and ends it: with 4, if a file, the output or what it was given fails it."""
+    sys.stdin = sys.stdin or open(os.devnull, encoding="ascii")  # first: it takes the number of its place
     sys.stderr, status = sys.stderr or open(os.devnull, "w", encoding="ascii"), 0
     try:
         for number in SIGNALS:
             if signal.getsignal(number) != signal.SIG_IGN:  # as nohup has it
                 signal.signal(number, interrupted)
+        signal.pthread_sigmask(signal.SIG_UNBLOCK, SIGNALS)  # which `env' blocks while Python starts
         if sys.stdout is None:
             raise Stopped("there is no standard output")
         sys.stdout.reconfigure(errors="backslashreplace")

@@ -69,7 +69,7 @@ class Story(Judgement):
         calls = plural(doubts, "call that wasn't", "calls that weren't")
         doubted = f"not judged: recorded calls may match {calls} recorded (without these: {words})"
         if self.misses_windows() and not doubts:
-            missing = plural(self.windows.unjudged(), "earlier window wasn't", "earlier windows weren't")
+            missing = plural(self.windows.unjudged(), "window wasn't", "windows weren't")
             doubted = f"not judged: {missing} (without these: {words})"
         return doubted if doubts or self.misses_windows() else f"verdict {words}"
 

@@ -1,4 +1,4 @@
-#!/usr/bin/env -S python3 -ES
+#!/usr/bin/env -S --block-signal=INT,TERM,HUP python3 -ES
 """Answers words of mpiwait by its code before the proof: `rt try` of the Rattle kit builds and runs it.
 
 `./mpiwait --unproved WORDS..` calls it. Standard output and the status are the program's own; so is
@@ -96,11 +96,13 @@ def interrupted(*_):
 
 
 if __name__ == "__main__":
-    for number in (signal.SIGINT, signal.SIGTERM, signal.SIGHUP):
+    signals = (signal.SIGINT, signal.SIGTERM, signal.SIGHUP)
+    for number in signals:
         if signal.getsignal(number) != signal.SIG_IGN:  # as nohup has it
             signal.signal(number, interrupted)
     ended = 4
     try:
+        signal.pthread_sigmask(signal.SIG_UNBLOCK, signals)  # which `env' blocks while Python starts
         ended = main(sys.argv[1:])
     except Exception as why:  # whatever it is, its status is no verdict
         write(2, f"mpiwait: {why}\n")

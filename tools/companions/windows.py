@@ -15,7 +15,7 @@ from contextlib import suppress
 from .journals import is_closed, journals_in, windows_in
 from .outputs import runs_in
 from .runs import Run
-from .script import Status, Stopped, plural, say, why_of
+from .script import ENDING, Status, Stopped, plural, say, why_of
 from .story import Story
 
 MOST_WAITING, PAUSE = 8, 0.1  # closed windows; seconds
@@ -84,6 +84,8 @@ class Windows:
             found = Counter(calls=sum(one.count() for one in journals), judged=1)
             found[(self.judge_strictly if self.first is None else self.judge_as_it_went)(number)] += 1
         except Exception as fault:
+            if ENDING:  # the window stays
+                return False
             say(f"window {number} can't be judged: {why_of(fault)}")
             found = Counter(failed=1)
         self.remove(number, found)
@@ -132,8 +134,15 @@ class Windows:
         strictly = sum(self.gone[what] for what in ("free", "by_tests", "different"))
         return strictly * is_less + self.gone["later"] * (self.first is None)
 
+    def missing(self):
+        """How many are neither there nor noted, as of a recording in part: a window is closed once
+        the next one is there."""
+        numbers = windows_in(self.folder) or [0]
+        known = len(numbers) + sum(self.gone[what] for what in ("judged", "removed", "failed"))
+        return max(0, numbers[-1] + is_closed(self.folder / str(numbers[-1])) - known)
+
     def unjudged(self):
-        return self.count("removed") + self.count("failed") + self.judged_otherwise()
+        return self.count("removed") + self.count("failed") + self.judged_otherwise() + self.missing()
 
     def counts(self):
         counts = {what: self.count(what) for what in ("judged", "calls")}
@@ -150,6 +159,8 @@ class Windows:
         for count, what in ((self.count("removed"), REMOVED), (self.judged_otherwise(), OTHERWISE)):
             yield from [f"{plural(count, 'window was', 'windows were')} {what}"] if count else []
         yield from [f"{plural(failed, 'window')} couldn't be judged"] if failed else []
+        missing = plural(self.missing(), "window of the recording isn't", "windows of the recording aren't")
+        yield from [f"{missing} there"] if self.missing() else []
         yield from self.odd
 
     def stories(self, judge, name, **more):
