@@ -207,6 +207,14 @@ class Script(unittest.TestCase):
         (self.top / "tools/companions/tempfile.py").write_text(more)
         self.assertEqual(self.run_script("--unproved", "run"), (4, "", "mpiwait: it was interrupted\n"))
 
+    def test_modules_that_cannot_be_read(self):
+        """Python's own status would be that of a hang."""
+        for text in ("raise KeyboardInterrupt", "raise MemoryError", "a b"):
+            (self.top / "tools/companions/tempfile.py").write_text(text)
+            status, out, said = self.run_script("--unproved", "run")
+            self.assertEqual((status, out), (4, ""))
+            self.assertRegex(said, "^mpiwait: it can't begin .*\n$")
+
     def test_without_rt_the_status_is_3(self):
         tools = self.folder / "tools"
         tools.mkdir()

@@ -5,7 +5,7 @@ import unittest
 
 from support import TOOLS, TOP
 
-MOST_LINES, MOST_IN_A_FUNCTION, MOST_COLUMNS, MOST_IN_BENCH = 2300, 40, 110, 120
+MOST_LINES, MOST_IN_A_FUNCTION, MOST_COLUMNS, MOST_IN_BENCH = 2310, 40, 110, 120
 
 
 def is_script(path):

@@ -5,13 +5,22 @@
 standard error, after one line that says so. Without an answer the status is 4: beyond the limits of
 `rt try`, for pipes, and for `close`."""
 
-import os
-import re
-import signal
-import subprocess
-import sys
-import tempfile
-from pathlib import Path
+from posix import _exit
+from posix import write as put
+
+try:
+    import os
+    import re
+    import signal
+    import subprocess
+    import sys
+    import tempfile
+    from pathlib import Path
+except BaseException as why:  # Python's own status would be that of a hang
+    try:
+        put(2, f"mpiwait: it can't begin (it needs Python 3.10): {why!r}\n".encode())
+    finally:
+        _exit(4)
 
 CRATE = Path(__file__).resolve().parents[2] / "crates/mpiwait"
 PART = re.compile(r"head|r[0-9]+|journal[0-9]+")
