@@ -2,6 +2,7 @@
 
 import os
 import shutil
+import signal
 import stat
 import subprocess
 import tempfile
@@ -203,6 +204,8 @@ class Script(unittest.TestCase):
 
     def test_a_signal_while_python_starts(self):
         """It waits until modules are read: Python would end with a status of its own."""
+        # Where the tests run in the background, it is ignored.
+        self.addCleanup(signal.signal, signal.SIGINT, signal.signal(signal.SIGINT, signal.default_int_handler))
         more = "import os, signal\nos.kill(os.getpid(), signal.SIGINT)\n"
         (self.top / "tools/companions/tempfile.py").write_text(more)
         self.assertEqual(self.run_script("--unproved", "run"), (4, "", "mpiwait: it was interrupted\n"))
