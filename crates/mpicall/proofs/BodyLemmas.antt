@@ -129,7 +129,7 @@ requests_begin (field ∷ fields) req left e =
 step_fields : (all : List (List ℕ)) (reqs : List ℕ) (field : List ℕ) (left : List (List ℕ)) (req : ℕ) → all ≡ map spell (map request_argument reqs) ++ field ∷ left → field ≡ decimal req → all ≡ map spell (map request_argument (reqs ++ req ∷ [])) ++ left
 step_fields all reqs field left req e f = rw (e, f) (simp (map-append, append_assoc) refl)
 
-step_in_range : (reqs : List ℕ) (req : ℕ) → list_all is_in_range (map request_argument reqs) ≡ true → is_in_range (request_argument req) ≡ true → list_all is_in_range (map request_argument (reqs ++ req ∷ [])) ≡ true
+pub step_in_range : (reqs : List ℕ) (req : ℕ) → list_all is_in_range (map request_argument reqs) ≡ true → is_in_range (request_argument req) ≡ true → list_all is_in_range (map request_argument (reqs ++ req ∷ [])) ≡ true
 step_in_range reqs req h here = simp (map-append, list_all-append, h, here) refl
 
 pub requests_step : (all : List (List ℕ)) (reqs : List ℕ) (field : List ℕ) (left : List (List ℕ)) (req : ℕ) → SoFar all reqs (field ∷ left) → length reqs < 64 → number_up_to 2147483647 field ≡ Some req → SoFar all (reqs ++ req ∷ []) left

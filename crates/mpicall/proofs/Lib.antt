@@ -17,6 +17,7 @@ pub mod WordLemmas
 pub mod RowLemmas
 pub mod CallArgsLemmas
 pub mod BodyLemmas
+pub mod OftenLemmas
 pub mod CallLemmas
 pub mod LineLemmas
 pub mod BeginningLemmas

@@ -6,6 +6,7 @@ pub mod Front
 pub mod CallArgs
 pub mod Line
 pub mod Lines
+pub mod Often
 pub mod Parsing
 pub mod Stage
 pub mod Window

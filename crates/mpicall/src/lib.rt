@@ -57,6 +57,7 @@ pub mod line;
 pub mod lint;
 pub mod memory;
 pub mod number;
+mod often;
 pub mod page;
 mod parsing;
 pub mod record;

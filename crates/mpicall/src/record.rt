@@ -1,12 +1,12 @@
 //! A record: a call whose fields all lie in the ranges of the trace format.
 
-ghost use Rattle.std.specs.Prelude.{◌≡◌, ◌↔◌, ◌&&◌, [], ◌∷◌, map, IsTrue, IsSome, IfSome};
+ghost use Rattle.std.specs.Prelude.{◌≡◌, ◌↔◌, ◌&&◌, [], ◌∷◌, map, IsTrue, IsSome, IfSome, MatchOption};
 ghost use Rattle.std.specs.List.{list_all};
 ghost use Rattle.mpicall.specs.Argument.{PeerOf, comm_argument, tag_argument, request_argument, bytes_arguments, is_in_range, peer_in_range, key_in_range, none_or_up_to};
 ghost use Rattle.mpicall.specs.Ending.{ends_list};
 ghost use Rattle.mpicall.specs.CallArgs.{args_in_line};
 ghost use Rattle.mpicall.specs.Limits.{in_ranges, may_tell};
-ghost use Rattle.mpicall.specs.inner.Parsing.{ReadsFields};
+ghost use Rattle.mpicall.specs.inner.Parsing.{ReadsFields, BeginsWith};
 ghost use Rattle.mpicall.specs.Spelling.{root_of, root_arguments};
 ghost use Rattle.mpicall.specs.declared.call.Call.TheVariants.{Coll, Finalize};
 
@@ -17,6 +17,7 @@ use crate::fields::Fields;
 use crate::limits::{
     GREATEST_BYTES, GREATEST_COLOUR, GREATEST_COMM, GREATEST_RANK, GREATEST_REQUEST, GREATEST_TAG,
 };
+use crate::often::read_often;
 use crate::word::root_of;
 use std::marker::Model;
 use std::{fmt, slice};
@@ -224,6 +225,15 @@ impl Record {
         ensures { ReadsFields fields.entry result self.old self.new }
     {
         read_fields(fields, &mut self.call)
+    }
+
+    /// Reads the record of the first line of some bytes, where it is one that comes often; says how many bytes it has,
+    /// and else leaves this one alone.
+    #[inline(always)]
+    pub(crate) fn read_often(&mut self, bytes: &[u8]) -> Option<usize>
+        ensures { MatchOption result (self.new ≡ self.old) (BeginsWith bytes.now self.new) }
+    {
+        read_often(bytes, &mut self.call)
     }
 
     /// The call in its place, for those that only look at it: a record takes some 264 bytes.

@@ -177,6 +177,34 @@ impl Remembered {
         Some(len)
     }
 
+    /// Notes that a line was missed.
+    #[inline(always)]
+    fn note_missed(&mut self) {
+        self.missed = if self.missed < MOST_PASSED {
+            self.missed + 1
+        } else {
+            0
+        };
+    }
+
+    /// Reads the record of the first line of some bytes, where it is the line that is expected, or where few lines come
+    /// again and it is one of those that come often. Says how many bytes it has, and else leaves the place alone.
+    #[inline(always)]
+    pub(crate) fn read_front(&mut self, buffered: &[u8], into: &mut Record) -> Option<usize>
+        ensures { MatchOption result (into.new ≡ into.old) (BeginsWith buffered.now into.new) }
+    {
+        if self.missed < MOST_MISSED {
+            return self.expect(buffered, into);
+        }
+        match into.read_often(buffered) {
+            Some(len) => {
+                self.note_missed();
+                Some(len)
+            }
+            None => self.expect(buffered, into),
+        }
+    }
+
     /// Reads the record of a line that is kept; says whether it is, and else leaves the place alone.
     #[inline(never)]
     fn find(&mut self, line: &[u8], into: &mut Record) -> bool
@@ -231,7 +259,7 @@ impl Remembered {
                 if missed < MOST_MISSED {
                     self.keep(line, into);
                 }
-                self.missed = if missed < MOST_PASSED { missed + 1 } else { 0 };
+                self.note_missed();
                 Ok(())
             }
             Err(fault) => Err(fault),

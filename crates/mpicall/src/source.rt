@@ -125,7 +125,7 @@ impl<I: Input> Source<I> {
         ensures cut { result ≡ Err ReadFailed
             → IsCutOff I.left self.old self.new [] }
     {
-        if let Some(count) = self.remembered.expect(self.window.buffered(), into) {
+        if let Some(count) = self.remembered.read_front(self.window.buffered(), into) {
             self.window.drop_front(count);
             self.stage = stage_behind(into);
             return Ok(true);
