@@ -40,6 +40,7 @@ number_begins bytes from room is =
     let one : decimal (get_or bytes from 0 - 48) ≡ get_or bytes from 0 ∷ [] = decimal_digit (get_or bytes from 0 - 48) small ∙ ap (λ (c : ℕ). c ∷ []) (sym (digit_again (get_or bytes from 0) range.0)) in
     record {
       text = rw (take_more bytes from 0 (omega (arith, room)), one) refl;
+      some = omega arith;
       few = omega arith;
       small = omega (arith, small);
     }
@@ -59,6 +60,7 @@ one_digit_more bytes from to n d has some few room is small =
     let count : length (take (to + 1) bytes) ≡ length (take from bytes) + length (decimal (n * 10 + d)) = ap length text ∙ length-append (take from bytes) (decimal (n * 10 + d)) in
     record {
       text = text;
+      some = omega (arith, has.some);
       few = omega (arith, short, count, length-take-le (to + 1) bytes (omega (arith, within)), length-take-le from bytes (omega (arith, room)));
       small = omega (arith, few, small);
     }
@@ -209,7 +211,7 @@ requests_go_on bytes at to req reqs so_far is number room few =
     let args : map request_argument (reqs ++ req ∷ []) ≡ map request_argument reqs ++ request_argument req ∷ [] = map-append request_argument reqs (req ∷ []) in
     record {
       text = rw (number.text, take_more bytes at 0 (omega (arith, room)), is, so_far.text, args, line_more (codes "waitall") (map request_argument reqs) (request_argument req))
-        (append_assoc (line_with (codes "waitall") (map request_argument reqs)) (space ∷ []) (decimal req));
+          (append_assoc (line_with (codes "waitall") (map request_argument reqs)) (space ∷ []) (decimal req));
       in_range = step_in_range reqs req so_far.in_range in_range;
       within = omega (arith, number.few, room);
       least = omega (arith, length-append reqs (req ∷ []), so_far.least);

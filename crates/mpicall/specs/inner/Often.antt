@@ -11,6 +11,7 @@ use Rattle.mpicall.specs.inner.Draft.{line_with}
 -- between two places of some bytes a number is written, of at most nine digits
 pub record HasNumber (bytes : List ℕ) (from to number : ℕ) : Type 0 where
   pub text : take to bytes ≡ take from bytes ++ decimal number
+  pub some : from < to
   pub few : to ≤ from + 9
   pub small : number < 1000000000
 
