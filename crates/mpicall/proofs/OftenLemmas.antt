@@ -1,27 +1,24 @@
 -- Lines that are read number by number are the spellings of their calls.
-use Rattle.std.proofs.Common.{◌≡◌, ℕ, ◌+◌, ◌-◌, ◌*◌, ◌/◌, ◌%◌, ◌^◌, ◌<◌, ◌≤◌, true, false, Option, Some, None, is_some, List, [], ◌∷◌, ◌++◌, length, take, get_or, map, codes, sym, ap, ◌∙◌, refl, arith, append_assoc, length-append, length-take-le, ◌&&◌, nat_le}
+use Rattle.std.proofs.Common.{◌≡◌, ℕ, ◌+◌, ◌-◌, ◌*◌, ◌/◌, ◌%◌, ◌^◌, ◌<◌, ◌≤◌, true, false, Option, Some, None, is_some, List, [], ◌∷◌, ◌++◌, length, take, get_or, map, codes, sym, ap, ◌∙◌, refl, arith, append_assoc, length-append, length-take-le, subst, add-one, nat_le}
 use Rattle.std.specs.Char.{is_ascii_digit}
 use Rattle.std.specs.Fmt.{decimal}
-use Rattle.std.specs.List.{list_all, join_with_byte}
 use Rattle.std.proofs.lemmas.Fmt.{decimal_digit, decimal_step, length-decimal-le}
 use Rattle.std.proofs.lemmas.List.{take_more, map-append}
 use Rattle.std.proofs.lemmas.Nat.{div-mul-add, mod-mul-add}
+use Rattle.std.proofs.Math.Nat.{pow-suc, pow-le-pow_right}
 use Rattle.std.proofs.lemmas.Bool.{and_parts, and_from}
 use Rattle.mpicall.proofs.ArgumentLemmas.{le_to, le_from}
 use Rattle.mpicall.proofs.BodyLemmas.{step_in_range}
 use Rattle.mpicall.proofs.SpellingLemmas.{call_joined}
-use Rattle.mpicall.specs.Argument.{Argument, Number, request_argument, is_in_range, spell}
-use Rattle.mpicall.specs.Limits.{in_ranges}
-use Rattle.mpicall.specs.Spelling.{space, line_feed, spelling, word_of_call, arguments_of, fields_of}
-use Rattle.mpicall.specs.Word.{text_of}
-use Rattle.mpicall.specs.declared.call.Call.{Call}
+use Rattle.mpicall.specs.Argument.{Argument, request_argument, is_in_range, spell}
+use Rattle.mpicall.specs.Spelling.{space, line_feed, spelling}
 use Rattle.mpicall.specs.declared.call.Call.TheVariants.{Send, Recv, Isend, Irecv, Wait, Waitall, Coll}
 use Rattle.mpicall.specs.declared.call.Kind.TheVariants.{Barrier}
 use Rattle.mpicall.specs.declared.call.Mode.TheVariants.{Standard}
 use Rattle.mpicall.specs.declared.call.Peer.TheVariants.{Rank}
 use Rattle.mpicall.specs.inner.Draft.{line_with}
-use Rattle.mpicall.specs.inner.Often.{HasNumber, HasField, HasLast, HasMessage, HasRequests, last_text, message_text, none_or_small}
-use Rattle.mpicall.specs.inner.Parsing.{BeginsWith, Spells}
+use Rattle.mpicall.specs.inner.Often.{IsNumber, HasNumber, HasDigits, HasField, HasLast, HasMessage, HasRequests}
+use Rattle.mpicall.specs.inner.Parsing.{BeginsWith}
 
 -- Numbers, digit by digit.
 
@@ -33,7 +30,8 @@ digit_range c is =
 digit_again : (c : ℕ) → 48 ≤ c → c ≡ 48 + (c - 48)
 digit_again c least = omega arith
 
-pub number_begins : (bytes : List ℕ) (from : ℕ) → from + 10 ≤ length bytes → is_ascii_digit (get_or bytes from 0) ≡ true → HasNumber bytes from (from + 1) (get_or bytes from 0 - 48)
+-- the first of them alone
+pub number_begins : (bytes : List ℕ) (from : ℕ) → from + 10 ≤ length bytes → is_ascii_digit (get_or bytes from 0) ≡ true → IsNumber bytes from (from + 1) (get_or bytes from 0 - 48)
 number_begins bytes from room is =
     let range = digit_range (get_or bytes from 0) is in
     let small : get_or bytes from 0 - 48 < 10 = omega (arith, range.0, range.1) in
@@ -51,7 +49,7 @@ one_more n d some few small =
     rw (div-mul-add n 10 d small, mod-mul-add n 10 d small) at step
 
 -- a digit behind them
-one_digit_more : (bytes : List ℕ) (from to n d : ℕ) → HasNumber bytes from to n → 0 < n → n < 100000000 → from + 10 ≤ length bytes → get_or bytes to 0 ≡ 48 + d → d < 10 → HasNumber bytes from (to + 1) (n * 10 + d)
+one_digit_more : (bytes : List ℕ) (from to n d : ℕ) → IsNumber bytes from to n → 0 < n → n < 100000000 → from + 10 ≤ length bytes → get_or bytes to 0 ≡ 48 + d → d < 10 → IsNumber bytes from (to + 1) (n * 10 + d)
 one_digit_more bytes from to n d has some few room is small =
     let within : to < length bytes = omega (arith, has.few, room) in
     let text : take (to + 1) bytes ≡ take from bytes ++ decimal (n * 10 + d) =
@@ -65,17 +63,55 @@ one_digit_more bytes from to n d has some few room is small =
       small = omega (arith, few, small);
     }
 
-pub number_goes_on : (bytes : List ℕ) (from to n : ℕ) → HasNumber bytes from to n → 0 < n → n < 100000000 → from + 10 ≤ length bytes → is_ascii_digit (get_or bytes to 0) ≡ true → HasNumber bytes from (to + 1) (n * 10 + (get_or bytes to 0 - 48))
-number_goes_on bytes from to n has some few room is =
-    let range = digit_range (get_or bytes to 0) is in
-    one_digit_more bytes from to n (get_or bytes to 0 - 48) has some few room (digit_again (get_or bytes to 0) range.0) (omega (arith, range.0, range.1))
+number_goes_on : (bytes : List ℕ) (from to n : ℕ) → IsNumber bytes from to n → 0 < n → n < 100000000 → from + 10 ≤ length bytes → 48 ≤ get_or bytes to 0 → get_or bytes to 0 ≤ 57 → IsNumber bytes from (to + 1) (n * 10 + (get_or bytes to 0 - 48))
+number_goes_on bytes from to n has some few room least most =
+    one_digit_more bytes from to n (get_or bytes to 0 - 48) has some few room (digit_again (get_or bytes to 0) least) (omega (arith, least, most))
 
-pub field_ends : (bytes : List ℕ) (from to n end : ℕ) → HasNumber bytes from to n → from + 10 ≤ length bytes → get_or bytes to 0 ≡ end → HasField bytes from (to + 1) n end
-field_ends bytes from to n end has room is =
+-- So many digits so far.
+
+pub below_nine : (count number : ℕ) → count < 9 → number < 10 ^ count → number < 100000000
+below_nine count number few below =
+    let most : 10 ^ count ≤ 10 ^ 8 = pow-le-pow_right {n = 10} (omega arith) {i = count} {j = 8} (omega (arith, few)) in
+    omega (arith, below, most)
+
+pub begins_with_digit : (bytes : List ℕ) (from next : ℕ) → from + 10 ≤ length bytes → is_ascii_digit (get_or bytes from 0) ≡ true → get_or bytes (from + 1) 0 ≡ next → HasNumber bytes from (from + 1) (get_or bytes from 0 - 48) next
+begins_with_digit bytes from next room digit after = record { is = number_begins bytes from room digit; next_is = after }
+
+pub digits_begin : (bytes : List ℕ) (from next : ℕ) → from + 10 ≤ length bytes → is_ascii_digit (get_or bytes from 0) ≡ true → get_or bytes (from + 1) 0 ≡ next → 0 < get_or bytes from 0 - 48 → HasDigits bytes from 1 (get_or bytes from 0 - 48) next
+digits_begin bytes from next room digit after some =
+    let range = digit_range (get_or bytes from 0) digit in
     record {
-      text = rw (take_more bytes to 0 (omega (arith, has.few, room)), is, has.text) (append_assoc (take from bytes) (decimal n) (end ∷ []));
-      few = omega (arith, has.few);
-      small = has.small;
+      has = begins_with_digit bytes from next room digit after;
+      some = some;
+      below = omega (arith, range.0, range.1);
+    }
+
+-- the byte behind the digits is one too
+digit_after : (bytes : List ℕ) (from count n next : ℕ) → HasDigits bytes from count n next → from + 10 ≤ length bytes → count < 9 → 48 ≤ next → next ≤ 57 → IsNumber bytes from (from + (count + 1)) (n * 10 + (next - 48))
+digit_after bytes from count n next has room few least most =
+    let is : get_or bytes (from + count) 0 ≡ next = has.has.next_is in
+    let further : IsNumber bytes from ((from + count) + 1) (n * 10 + (get_or bytes (from + count) 0 - 48)) = number_goes_on bytes from (from + count) n has.has.is has.some (below_nine count n few has.below) room (omega (arith, is, least)) (omega (arith, is, most)) in
+    let place : (from + count) + 1 ≡ from + (count + 1) = omega arith in
+    let moved : IsNumber bytes from (from + (count + 1)) (n * 10 + (get_or bytes (from + count) 0 - 48)) = subst (λ (to : ℕ). IsNumber bytes from to (n * 10 + (get_or bytes (from + count) 0 - 48))) place further in
+    subst (λ (byte : ℕ). IsNumber bytes from (from + (count + 1)) (n * 10 + (byte - 48))) is moved
+
+pub digits_go_on : (bytes : List ℕ) (from count n next after : ℕ) → HasDigits bytes from count n next → from + 10 ≤ length bytes → count < 9 → is_ascii_digit next ≡ true → get_or bytes ((from + count) + 1) 0 ≡ after → HasDigits bytes from (count + 1) (n * 10 + (next - 48)) after
+digits_go_on bytes from count n next after has room few digit behind =
+    let range = digit_range next digit in
+    let more : 10 ^ (count + 1) ≡ 10 ^ count * 10 = rw (add-one count) (pow-suc 10 count) in
+    let place : (from + count) + 1 ≡ from + (count + 1) = omega arith in
+    record {
+      has = record { is = digit_after bytes from count n next has room few range.0 range.1; next_is = subst (λ (to : ℕ). get_or bytes to 0 ≡ after) place behind };
+      some = omega (arith, has.some);
+      below = omega (arith, has.below, more, range.0, range.1);
+    }
+
+pub field_ends : (bytes : List ℕ) (from to n next end : ℕ) → HasNumber bytes from to n next → from + 10 ≤ length bytes → next ≡ end → HasField bytes from (to + 1) n end
+field_ends bytes from to n next end has room ends =
+    record {
+      text = rw (take_more bytes to 0 (omega (arith, has.is.few, room)), has.next_is, ends, has.is.text) (append_assoc (take from bytes) (decimal n) (end ∷ []));
+      few = omega (arith, has.is.few);
+      small = has.is.small;
     }
 
 -- What a message has.
@@ -92,7 +128,7 @@ last_said bytes from to said room is has =
       small = has.small;
     }
 
-pub message_whole : (bytes : List ℕ) (from a b c to comm rank tag : ℕ) (said : Option ℕ) → HasField bytes from a comm space → HasField bytes a b rank space → HasNumber bytes b c tag → HasLast bytes c to said → comm ≤ 4095 → rank ≤ 1023 → HasMessage bytes from to comm rank tag said
+pub message_whole : (bytes : List ℕ) (from a b c to comm rank tag : ℕ) (said : Option ℕ) → HasField bytes from a comm space → HasField bytes a b rank space → IsNumber bytes b c tag → HasLast bytes c to said → comm ≤ 4095 → rank ≤ 1023 → HasMessage bytes from to comm rank tag said
 message_whole bytes from a b c to comm rank tag said first second third last few_comms few_ranks =
     record {
       text = rw (last.text, third.text, second.text, first.text) (simp append_assoc refl);
@@ -191,12 +227,13 @@ barrier_spelled bytes to comm room word field few =
 
 -- A wait for several requests.
 
-pub requests_begin : (bytes : List ℕ) (at req : ℕ) → 64 ≤ length bytes → take 8 bytes ≡ codes "waitall " → HasNumber bytes 8 at req → HasRequests bytes at (req ∷ [])
-requests_begin bytes at req room word number =
+pub requests_begin : (bytes : List ℕ) (at req next : ℕ) → 64 ≤ length bytes → take 8 bytes ≡ codes "waitall " → HasNumber bytes 8 at req next → HasRequests bytes at next (req ∷ [])
+requests_begin bytes at req next room word number =
     record {
-      text = rw (number.text, word) refl;
-      in_range = rw (le_to req 2147483647 (omega (arith, number.small))) refl;
-      within = omega (arith, room, number.few);
+      text = rw (number.is.text, word) refl;
+      in_range = rw (le_to req 2147483647 (omega (arith, number.is.small))) refl;
+      next_is = number.next_is;
+      within = omega (arith, room, number.is.few);
       least = omega arith;
       most = omega arith;
     }
@@ -205,26 +242,27 @@ line_more : (line : List ℕ) (arguments : List Argument) (argument : Argument) 
 line_more line [] argument = refl
 line_more line (first ∷ arguments) argument = line_more (line ++ space ∷ spell first) arguments argument
 
-pub requests_go_on : (bytes : List ℕ) (at to req : ℕ) (reqs : List ℕ) → HasRequests bytes at reqs → get_or bytes at 0 ≡ space → HasNumber bytes (at + 1) to req → at + 11 ≤ length bytes → length reqs < 64 → HasRequests bytes to (reqs ++ req ∷ [])
-requests_go_on bytes at to req reqs so_far is number room few =
-    let in_range : is_in_range (request_argument req) ≡ true = le_to req 2147483647 (omega (arith, number.small)) in
+pub requests_go_on : (bytes : List ℕ) (at next to req after : ℕ) (reqs : List ℕ) → HasRequests bytes at next reqs → next ≡ space → HasNumber bytes (at + 1) to req after → at + 11 ≤ length bytes → length reqs < 64 → HasRequests bytes to after (reqs ++ req ∷ [])
+requests_go_on bytes at next to req after reqs so_far is number room few =
+    let in_range : is_in_range (request_argument req) ≡ true = le_to req 2147483647 (omega (arith, number.is.small)) in
     let args : map request_argument (reqs ++ req ∷ []) ≡ map request_argument reqs ++ request_argument req ∷ [] = map-append request_argument reqs (req ∷ []) in
     record {
-      text = rw (number.text, take_more bytes at 0 (omega (arith, room)), is, so_far.text, args, line_more (codes "waitall") (map request_argument reqs) (request_argument req))
+      text = rw (number.is.text, take_more bytes at 0 (omega (arith, room)), so_far.next_is, is, so_far.text, args, line_more (codes "waitall") (map request_argument reqs) (request_argument req))
           (append_assoc (line_with (codes "waitall") (map request_argument reqs)) (space ∷ []) (decimal req));
       in_range = step_in_range reqs req so_far.in_range in_range;
-      within = omega (arith, number.few, room);
+      next_is = number.next_is;
+      within = omega (arith, number.is.few, room);
       least = omega (arith, length-append reqs (req ∷ []), so_far.least);
       most = omega (arith, length-append reqs (req ∷ []), few);
     }
 
-pub waitall_spelled : (bytes : List ℕ) (at : ℕ) (reqs : List ℕ) → HasRequests bytes at reqs → get_or bytes at 0 ≡ line_feed → BeginsWith bytes (Waitall reqs) (at + 1)
+pub waitall_spelled : (bytes : List ℕ) (at next : ℕ) (reqs : List ℕ) → HasRequests bytes at next reqs → next ≡ line_feed → BeginsWith bytes (Waitall reqs) (at + 1)
 unfolding spelling
-waitall_spelled bytes at reqs so_far is =
+waitall_spelled bytes at next reqs so_far is =
     record {
       within = omega (arith, so_far.within);
       spells = record {
-        line_is = rw (take_more bytes at 0 so_far.within, is, so_far.text) (ap (λ (line : List ℕ). line ++ line_feed ∷ []) (call_joined [] (Waitall reqs)));
+        line_is = rw (take_more bytes at 0 so_far.within, so_far.next_is, is, so_far.text) (ap (λ (line : List ℕ). line ++ line_feed ∷ []) (call_joined [] (Waitall reqs)));
         in_ranges_is = and_from _ _ so_far.in_range (and_from _ _ (le_to 1 (length reqs) so_far.least) (le_to (length reqs) 64 so_far.most));
       };
     }

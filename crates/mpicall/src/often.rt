@@ -2,7 +2,10 @@
 //!
 //! A line that isn't read so may still be that of a record. Then it is read as any other.
 
-ghost use Rattle.std.specs.Prelude.{◌≡◌, ◌≤◌, ◌+◌, true, length, take, IfSome, MatchOption};
+ghost use Rattle.std.specs.Prelude.{◌≡◌, ◌≤◌, ◌+◌, true, length, take, slice_index, IfSome, MatchOption};
+ghost use Rattle.mpicall.specs.declared.call.Call.TheVariants.{Isend, Irecv};
+ghost use Rattle.mpicall.specs.declared.call.Mode.TheVariants.{Standard};
+ghost use Rattle.mpicall.specs.declared.call.Peer.TheVariants.{Rank};
 ghost use Rattle.mpicall.specs.inner.Often.{HasNumber, HasField, HasLast, HasMessage};
 ghost use Rattle.mpicall.specs.inner.Parsing.{BeginsWith};
 
@@ -33,29 +36,33 @@ fn begin_with<const N: usize>(bytes: &[u8], front: &[u8; N]) -> bool
     }
 }
 
-/// Takes off a number of at most nine digits. `likely` is the byte that most often comes next, a matter of time alone.
+/// Takes off a number of at most nine digits; `next` is then the byte behind it. `likely` is the byte that most often
+/// comes there, a matter of time alone.
 #[inline(always)]
-fn take_number(bytes: &[u8], at: &mut usize, likely: u8) -> Option<u32>
+fn take_number(bytes: &[u8], at: &mut usize, next: &mut u8, likely: u8) -> Option<u32>
     requires { at.old + 10 ≤ length bytes.now }
-    ensures { IfSome result (λ number. HasNumber bytes.now at.old at.new number) }
+    ensures { IfSome result (λ number. HasNumber bytes.now at.old at.new number next.new) }
 {
-    let first = bytes[*at];
+    let from = *at;
+    let first = bytes[from];
     if !first.is_ascii_digit() {
         return None;
     }
     let mut number = u32::from(first - b'0');
-    *at += 1;
-    if number == 0 || bytes[*at] == likely {
+    *next = bytes[from + 1];
+    if number == 0 || *next == likely {
+        *at = from + 1;
         return Some(number);
     }
-    while number < 100_000_000 {
-        let byte = bytes[*at];
-        if !byte.is_ascii_digit() {
+    for count in 1..9 {
+        if !next.is_ascii_digit() {
+            *at = from + count;
             return Some(number);
         }
-        number = number * 10 + u32::from(byte - b'0');
-        *at += 1;
+        number = number * 10 + u32::from(*next - b'0');
+        *next = bytes[from + count + 1];
     }
+    *at = from + 9;
     Some(number)
 }
 
@@ -65,21 +72,23 @@ fn take_field(bytes: &[u8], at: &mut usize, end: u8) -> Option<u32>
     requires { at.old + 10 ≤ length bytes.now }
     ensures { IfSome result (λ number. HasField bytes.now at.old at.new number end) }
 {
-    let number = take_number(bytes, at, end)?;
-    if bytes[*at] != end {
+    let mut next = 0;
+    let number = take_number(bytes, at, &mut next, end)?;
+    if next != end {
         return None;
     }
     *at += 1;
     Some(number)
 }
 
-/// Takes off how many bytes a message has, where that is said, and the end of the line.
+/// Takes off the end of the line, and before it how many bytes the message has, where that is said. `next` is the byte
+/// that comes first.
 #[inline(always)]
-fn take_last(bytes: &[u8], at: &mut usize) -> Option<Option<u32>>
-    requires { at.old + 11 ≤ length bytes.now }
+fn take_last(bytes: &[u8], at: &mut usize, next: u8) -> Option<Option<u32>>
+    requires room { at.old + 11 ≤ length bytes.now }
+    requires next { slice_index bytes.now at.old ≡ next }
     ensures { IfSome result (λ said. HasLast bytes.now at.old at.new said) }
 {
-    let next = bytes[*at];
     *at += 1;
     if next == b'\n' {
         return Some(None);
@@ -102,14 +111,46 @@ fn take_message(bytes: &[u8], at: &mut usize) -> Option<Message>
     if comm > u32::from(GREATEST_COMM) || rank > u32::from(GREATEST_RANK) {
         return None;
     }
-    let tag = take_number(bytes, at, b'\n')?;
-    let said = take_last(bytes, at)?;
+    let mut next = 0;
+    let tag = take_number(bytes, at, &mut next, b'\n')?;
+    let said = take_last(bytes, at, next)?;
     Some(Message {
         comm: comm as u16,
         rank: rank as u16,
         tag,
         said,
     })
+}
+
+/// Makes a call that of a send that is started. Where it is one already, only its fields are written.
+fn set_isend(into: &mut Call, number: u32, message: Message)
+    ensures { into.new ≡ Isend number Standard message.comm (Rank message.rank) message.tag message.said }
+{
+    match into {
+        Call::Isend {
+            req,
+            mode,
+            comm,
+            dest,
+            tag,
+            bytes,
+        } => {
+            *req = number;
+            *mode = Mode::Standard;
+            *comm = message.comm;
+            *dest = Peer::Rank(message.rank);
+            *tag = message.tag;
+            *bytes = message.said;
+        }
+        _ => *into = Call::Isend {
+            req: number,
+            mode: Mode::Standard,
+            comm: message.comm,
+            dest: Peer::Rank(message.rank),
+            tag: message.tag,
+            bytes: message.said,
+        },
+    }
 }
 
 fn read_isend(bytes: &[u8], into: &mut Call) -> Option<usize>
@@ -122,15 +163,33 @@ fn read_isend(bytes: &[u8], into: &mut Call) -> Option<usize>
     let mut at = 6;
     let req = take_field(bytes, &mut at, b' ')?;
     let message = take_message(bytes, &mut at)?;
-    *into = Call::Isend {
-        req,
-        mode: Mode::Standard,
-        comm: message.comm,
-        dest: Peer::Rank(message.rank),
-        tag: message.tag,
-        bytes: message.said,
-    };
+    set_isend(into, req, message);
     Some(at)
+}
+
+/// Makes a call that of a receive that is started. Where it is one already, only its fields are written.
+fn set_irecv(into: &mut Call, number: u32, message: Message)
+    ensures { into.new ≡ Irecv number message.comm (Rank message.rank) message.tag }
+{
+    match into {
+        Call::Irecv {
+            req,
+            comm,
+            source,
+            tag,
+        } => {
+            *req = number;
+            *comm = message.comm;
+            *source = Peer::Rank(message.rank);
+            *tag = message.tag;
+        }
+        _ => *into = Call::Irecv {
+            req: number,
+            comm: message.comm,
+            source: Peer::Rank(message.rank),
+            tag: message.tag,
+        },
+    }
 }
 
 fn read_irecv(bytes: &[u8], into: &mut Call) -> Option<usize>
@@ -146,12 +205,7 @@ fn read_irecv(bytes: &[u8], into: &mut Call) -> Option<usize>
     if message.said.is_some() {
         return None;
     }
-    *into = Call::Irecv {
-        req,
-        comm: message.comm,
-        source: Peer::Rank(message.rank),
-        tag: message.tag,
-    };
+    set_irecv(into, req, message);
     Some(at)
 }
 
@@ -215,20 +269,18 @@ fn read_waitall(bytes: &[u8], into: &mut Call) -> Option<usize>
         return None;
     }
     let mut at = 8;
-    let first = take_number(bytes, &mut at, b' ')?;
+    let mut next = 0;
+    let first = take_number(bytes, &mut at, &mut next, b' ')?;
     let mut reqs = Reqs::of_one(first);
-    while bytes[at] == b' ' {
-        if reqs.is_full() {
-            return None;
-        }
-        if bytes.len() - at <= 10 {
+    while next == b' ' {
+        if reqs.is_full() || bytes.len() - at <= 10 {
             return None;
         }
         at += 1;
-        let req = take_number(bytes, &mut at, b' ')?;
+        let req = take_number(bytes, &mut at, &mut next, b' ')?;
         reqs.push(req);
     }
-    if bytes[at] != b'\n' {
+    if next != b'\n' {
         return None;
     }
     *into = Call::Waitall { reqs };
@@ -262,16 +314,19 @@ pub(crate) fn read_often(bytes: &[u8], into: &mut Call) -> Option<usize>
     if bytes.len() < ENOUGH {
         return None;
     }
-    match (bytes[0], bytes[1]) {
-        (b'i', b's') => read_isend(bytes, into),
-        (b'i', _) => read_irecv(bytes, into),
-        (b's', _) => read_send(bytes, into),
-        (b'r', _) => read_recv(bytes, into),
-        (b'w', _) => match bytes[4] {
+    match bytes[0] {
+        b'i' => match bytes[1] {
+            b's' => read_isend(bytes, into),
+            b'r' => read_irecv(bytes, into),
+            _ => None,
+        },
+        b's' => read_send(bytes, into),
+        b'r' => read_recv(bytes, into),
+        b'w' => match bytes[4] {
             b'a' => read_waitall(bytes, into),
             _ => read_wait(bytes, into),
         },
-        (b'b', _) => read_barrier(bytes, into),
+        b'b' => read_barrier(bytes, into),
         _ => None,
     }
 }

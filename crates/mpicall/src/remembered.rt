@@ -2,9 +2,10 @@
 //! equal one of the last few.
 //!
 //! The policy has two modes. While lines repeat, the line that came after the last one before is expected,
-//! and else one with the same mark is compared. After 32 more misses than hits, lines are read plainly, and
-//! only the line that came again last is still compared, up to 16 misses in a row. That mode ends after
-//! some 4,000 lines, or if expected lines bring the count below 32 again.
+//! and else one with the same mark is compared. After 32 more misses than hits, lines that come often are read
+//! at once (`often.rt`), which is faster than to look whether they are known. Another is compared with the line
+//! that came again last, up to 16 misses in a row, and else read plainly. That mode ends after some 4,000 lines,
+//! or if expected lines bring the count below 32 again.
 //!
 //! A sought line is always compared with the kept one as a whole, and the kept one is known to spell its
 //! record. So the policy is a matter of time alone, and nothing is proved of it.
@@ -193,16 +194,13 @@ impl Remembered {
     pub(crate) fn read_front(&mut self, buffered: &[u8], into: &mut Record) -> Option<usize>
         ensures { MatchOption result (into.new ≡ into.old) (BeginsWith buffered.now into.new) }
     {
-        if self.missed < MOST_MISSED {
-            return self.expect(buffered, into);
-        }
-        match into.read_often(buffered) {
-            Some(len) => {
+        if self.missed >= MOST_MISSED {
+            if let Some(len) = into.read_often(buffered) {
                 self.note_missed();
-                Some(len)
+                return Some(len);
             }
-            None => self.expect(buffered, into),
         }
+        self.expect(buffered, into)
     }
 
     /// Reads the record of a line that is kept; says whether it is, and else leaves the place alone.

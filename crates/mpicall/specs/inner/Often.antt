@@ -1,6 +1,6 @@
 -- Lines that are read straight from the front of held bytes, number by number. Nobody has to believe this: it says how
 -- far a reader is.
-use Rattle.std.specs.Prelude.{ℕ, ◌≡◌, ◌≤◌, ◌<◌, ◌+◌, true, Option, Some, None, List, [], ◌∷◌, ◌++◌, length, map, take, codes}
+use Rattle.std.specs.Prelude.{ℕ, ◌≡◌, ◌≤◌, ◌<◌, ◌+◌, ◌^◌, true, Option, Some, None, List, [], ◌∷◌, ◌++◌, length, map, take, codes, slice_index}
 use Rattle.std.specs.Fmt.{decimal}
 use Rattle.std.specs.List.{list_all}
 use Rattle.mpicall.specs.Argument.{is_in_range, request_argument}
@@ -9,13 +9,24 @@ use Rattle.mpicall.specs.declared.limits.TheConstants.{GREATEST_COMM, GREATEST_R
 use Rattle.mpicall.specs.inner.Draft.{line_with}
 
 -- between two places of some bytes a number is written, of at most nine digits
-pub record HasNumber (bytes : List ℕ) (from to number : ℕ) : Type 0 where
+pub record IsNumber (bytes : List ℕ) (from to number : ℕ) : Type 0 where
   pub text : take to bytes ≡ take from bytes ++ decimal number
   pub some : from < to
   pub few : to ≤ from + 9
   pub small : number < 1000000000
 
--- and a byte after it
+-- and this is the byte behind it
+pub record HasNumber (bytes : List ℕ) (from to number next : ℕ) : Type 0 where
+  pub is : IsNumber bytes from to number
+  pub next_is : slice_index bytes to ≡ next
+
+-- so many digits so far, the first of which isn't 0
+pub record HasDigits (bytes : List ℕ) (from count number next : ℕ) : Type 0 where
+  pub has : HasNumber bytes from (from + count) number next
+  pub some : 0 < number
+  pub below : number < 10 ^ count
+
+-- a number, and a byte after it
 pub record HasField (bytes : List ℕ) (from to number end : ℕ) : Type 0 where
   pub text : take to bytes ≡ take from bytes ++ (decimal number ++ end ∷ [])
   pub few : to ≤ from + 10
@@ -47,10 +58,11 @@ pub record HasMessage (bytes : List ℕ) (from to comm rank tag : ℕ) (said : O
   pub tag_is : tag < 1000000000
   pub said_is : none_or_small said
 
--- some bytes begin with the line of a wait for these requests, as far as a place
-pub record HasRequests (bytes : List ℕ) (at : ℕ) (reqs : List ℕ) : Type 0 where
+-- some bytes begin with the line of a wait for these requests, as far as a place, and this is the byte there
+pub record HasRequests (bytes : List ℕ) (at next : ℕ) (reqs : List ℕ) : Type 0 where
   pub text : take at bytes ≡ line_with (codes "waitall") (map request_argument reqs)
   pub in_range : list_all is_in_range (map request_argument reqs) ≡ true
+  pub next_is : slice_index bytes at ≡ next
   pub within : at < length bytes
   pub least : 1 ≤ length reqs
   pub most : length reqs ≤ 64

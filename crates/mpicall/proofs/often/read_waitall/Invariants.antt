@@ -3,8 +3,8 @@ use Rattle.std.proofs.Common.{◌-◌, length}
 use Rattle.mpicall.specs.inner.Often.{HasRequests}
 use Rattle.mpicall.proofs.often.read_waitall.Given as goal
 
-abbrev pub invariant-loop-at : goal.invariant-loop-at
-invariant-loop-at l = HasRequests l.bytes l.at l.reqs
+abbrev pub invariant-loop-next : goal.invariant-loop-next
+invariant-loop-next l = HasRequests l.bytes l.at l.next l.reqs
 
-abbrev pub decreases-loop-at : goal.decreases-loop-at
-decreases-loop-at l = length l.bytes - l.at
+abbrev pub decreases-loop-next : goal.decreases-loop-next
+decreases-loop-next l = length l.bytes - l.at

@@ -1,23 +1,22 @@
 -- A digit, and each digit after it.
-use Rattle.std.proofs.Common.{◌∙◌, sym, arith}
-use Rattle.mpicall.proofs.OftenLemmas.{number_begins, number_goes_on}
+use Rattle.std.proofs.Common.{◌∙◌, sym, refl, arith}
+use Rattle.mpicall.proofs.OftenLemmas.{begins_with_digit, digits_begin, digits_go_on, below_nine}
 use Rattle.mpicall.proofs.often.take_number.Goals as goal
 
 pub returns-then-number-eq0 : goal.returns-then-number-eq0
-returns-then-number-eq0 c = rw c.from-number.ensures (number_begins c.args.bytes.now c.args.at.now c.requires (sym c.is_ascii_digit.ensures.value ∙ c.if-not-is_ascii_digit.false))
+returns-then-number-eq0 c = rw c.from-number.ensures (begins_with_digit c.args.bytes.now c.args.at.now _ c.requires (sym c.is_ascii_digit.ensures.value ∙ c.if-not-is_ascii_digit.false) refl)
 
-pub loop-number-init : goal.loop-number-init
-loop-number-init c =
-    record {
-      has = rw c.from-number.ensures (number_begins c.args.bytes.now c.args.at.now c.requires (sym c.is_ascii_digit.ensures.value ∙ c.if-not-is_ascii_digit.false));
-      some = omega arith;
-    }
+pub loop-count-init : goal.loop-count-init
+loop-count-init c = rw c.from-number.ensures (digits_begin c.args.bytes.now c.args.at.now _ c.requires (sym c.is_ascii_digit.ensures.value ∙ c.if-not-is_ascii_digit.false) refl (omega arith))
 
-pub loop-number-preserved : goal.loop-number-preserved
-loop-number-preserved c =
-    record {
-      has = rw c.from.ensures
-          (number_goes_on c.args.bytes.now c.args.at.now c.loop-number.at c.loop-number.number c.loop-number.invariant.has c.loop-number.invariant.some c.loop-number-test.true c.requires
-          (sym c.is_ascii_digit-in-loop-number.ensures.value ∙ c.if-not-is_ascii_digit-2.false));
-      some = omega (arith, c.loop-number.invariant.some);
-    }
+pub overflow_mul-number : goal.overflow_mul-number
+overflow_mul-number c = omega (arith, below_nine c.loop-count.count c.loop-count.number c.loop-count-test.true c.loop-count.invariant.below)
+
+pub overflow_add-number : goal.overflow_add-number
+overflow_add-number c = omega (arith, below_nine c.loop-count.count c.loop-count.number c.loop-count-test.true c.loop-count.invariant.below)
+
+pub loop-count-preserved : goal.loop-count-preserved
+loop-count-preserved c =
+    rw c.from.ensures
+    (digits_go_on c.args.bytes.now c.args.at.now c.loop-count.count c.loop-count.number c.loop-count.next _ c.loop-count.invariant c.requires c.loop-count-test.true
+    (sym c.is_ascii_digit-in-loop-count.ensures.value ∙ c.if-not-is_ascii_digit-2.false) refl)
