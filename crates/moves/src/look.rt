@@ -4,14 +4,14 @@
 //! A call that its rank hasn't reached meets no need of anybody, so no look follows it. A look at a wave
 //! compares two numbers: how many waves of the communicator are complete, and the number of the wave.
 
-ghost use Rattle.std.specs.Prelude.{◌≡◌, ◌<◌, slice_index, option_to_list};
+ghost use Rattle.std.specs.Prelude.{◌≡◌, ◌<◌, slice_index, option_to_list, IfSome};
 ghost use Rattle.std.specs.List.{list_all};
 ghost use Rattle.callstore.specs.Limits.{most_calls};
 ghost use Rattle.moves.specs.Needs.{is_met};
 ghost use Rattle.pairing.specs.Seen.{call_seen};
 ghost use Rattle.moves.specs.inner.Waiting.{message_needs};
 ghost use Rattle.moves.specs.Worlds.{IsSeenAt};
-ghost use Rattle.moves.specs.inner.Positions.{IsCallAt, KnowWaves, OperationTells, RequestTells, RequestsTell, CallTells, RankTells};
+ghost use Rattle.moves.specs.inner.Positions.{IsCallAt, IsCallIf, IsSeenIf, KnowWaves, OperationTells, RequestTells, RequestsTell, CallTells, RankTells};
 
 use crate::need::{At, Need, is_met, need_to_probe, need_to_receive, need_to_send};
 use crate::world::{Positions, World};
@@ -226,6 +226,28 @@ fn look_at_call(world: &World, positions: &Positions, at: At, call: &CallAt<'_>)
     }
 }
 
+/// Looks at a rank where it stands, at its call at the place, if one is there.
+#[inline(always)]
+pub(crate) fn look_at_place(
+    world: &World,
+    positions: &Positions,
+    at: At,
+    call: &Option<CallAt<'_>>,
+) -> Look
+    requires waves { KnowWaves world.now positions.now }
+    requires call { IsCallIf world.now at call.now }
+    requires seen { IsSeenIf world.now at call.now }
+    requires few { IfSome call.now (λ call. at.1 < most_calls) }
+    requires is_there { at.1 ≡ slice_index positions.now.stands.items at.0 }
+    ensures tells { RankTells world.now positions.now at.0 result }
+    ensures room { result ≡ Look.Moves → slice_index positions.now.stands.items at.0 < most_calls }
+{
+    match call {
+        Some(call) if !call.call().ends_list() => look_at_call(world, positions, at, call),
+        _ => Look::Over,
+    }
+}
+
 /// Looks at a rank where it stands.
 #[inline(always)]
 pub(crate) fn look_at(world: &World, positions: &Positions, rank: u16) -> Look
@@ -234,10 +256,6 @@ pub(crate) fn look_at(world: &World, positions: &Positions, rank: u16) -> Look
     ensures room { result ≡ Look.Moves → slice_index positions.now.stands.items rank < most_calls }
 {
     let stand = positions.stand(rank);
-    match world.pairs.at(rank, stand) {
-        Some(call) if !call.call().ends_list() => {
-            look_at_call(world, positions, (rank, stand), &call)
-        }
-        _ => Look::Over,
-    }
+    let call = &world.pairs.at(rank, stand);
+    look_at_place(world, positions, (rank, stand), call)
 }

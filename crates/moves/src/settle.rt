@@ -4,7 +4,7 @@
 //! shown by one number: the calls that are not passed, times one more than the ranks, plus the length of
 //! the worklist.
 
-ghost use Rattle.std.specs.Prelude.{◌≡◌, ◌<◌, ◌≤◌, true, false, None, length, slice_index, option_and_then, IfSome};
+ghost use Rattle.std.specs.Prelude.{◌≡◌, ◌≢◌, ◌<◌, ◌≤◌, false, None, length, slice_index, option_and_then, IfSome};
 ghost use Rattle.callstore.specs.Envelopes.{message_of};
 ghost use Rattle.callstore.specs.Limits.{most_calls};
 ghost use Rattle.pairing.specs.Seen.{call_seen, wave_seen};
@@ -12,9 +12,9 @@ ghost use Rattle.moves.specs.Worlds.{IsSeenAt};
 ghost use Rattle.callstore.specs.declared.envelope.Half.TheVariants.{Send as SendHalf, Recv as RecvHalf};
 ghost use Rattle.moves.specs.Runs.{moved};
 ghost use Rattle.moves.specs.inner.Waiting.{comm_list, sent_to, sees, prober_of, woken_partner, woken_prober, woken_peers, woken_comm};
-ghost use Rattle.moves.specs.inner.Positions.{IsCallAt, IsCallIf, IsSeenIf, AreKept, AreReached, AreSettled, GoOn, HaveArrival, HaveInHand, HaveWoken, left_to_do};
+ghost use Rattle.moves.specs.inner.Positions.{IsCallAt, IsCallIf, IsSeenIf, AreKept, AreReached, AreSettled, GoOn, HaveArrival, HaveInHand, HaveWoken, RankTells, left_to_do};
 
-use crate::look::{Look, look_at};
+use crate::look::{Look, look_at, look_at_place};
 use crate::need::At;
 use crate::waiters::Waiters;
 use crate::world::{Positions, World};
@@ -210,12 +210,12 @@ fn reach_of<const KIND: u8>(
 
 /// Wakes all that wait for the call at the place, by the function of its kind.
 #[inline(always)]
-fn reach(world: &World, positions: &mut Positions, rank: u16, place: u32)
-    requires { AreReached world.now positions.old rank place }
-    ensures { HaveWoken world.now positions.old positions.new rank }
+fn reach(world: &World, positions: &mut Positions, at: At, call: &Option<CallAt<'_>>)
+    requires reached { AreReached world.now positions.old at.0 at.1 }
+    requires call { IsCallIf world.now at call.now }
+    requires seen { IsSeenIf world.now at call.now }
+    ensures { HaveWoken world.now positions.old positions.new at.0 }
 {
-    let at = (rank, place);
-    let call = &world.pairs.at(rank, place);
     by_kind!(
         kind_of(call),
         reach_of(world, positions, at, call),
@@ -224,44 +224,70 @@ fn reach(world: &World, positions: &mut Positions, rank: u16, place: u32)
     )
 }
 
-/// Looks at the rank in hand, and answers whether it still is: it moves on by one, or is linked where it
-/// waits, or is let go where it rests.
+/// Wakes all that wait for the rank's call at the place, to which the rank has just come, and looks at the rank there.
 #[inline(always)]
-fn settle_one(world: &World, positions: &mut Positions, rank: u16) -> bool
-    requires { HaveInHand world.now positions.old rank }
-    ensures in_hand { result ≡ true → HaveInHand world.now positions.new rank }
-    ensures kept { result ≡ false → AreKept world.now positions.new }
-    ensures goes_on { GoOn positions.old positions.new }
-    ensures no_more { left_to_do world.now positions.new ≤ left_to_do world.now positions.old }
-    ensures falls { result ≡ true → left_to_do world.now positions.new < left_to_do world.now positions.old }
+fn come_to(world: &World, positions: &mut Positions, rank: u16, place: u32) -> Look
+    requires { AreReached world.now positions.old rank place }
+    ensures woken { HaveWoken world.now positions.old positions.new rank }
+    ensures tells { RankTells world.now positions.new rank result }
+    ensures room { result ≡ Look.Moves → slice_index positions.new.stands.items rank < most_calls }
 {
-    match look_at(world, positions, rank) {
-        Look::Over => false,
-        Look::Partner { place } => {
-            positions.waiters.wait_for_partner(rank, place);
-            false
-        }
-        Look::Wave { comm } => {
-            positions.waiters.wait_for_wave(rank, comm);
-            false
-        }
-        Look::Moves => {
-            move_on(&mut positions.stands, rank);
-            let place = positions.stand(rank);
-            reach(world, positions, rank, place);
-            true
-        }
-    }
+    let at = (rank, place);
+    let call = &world.pairs.at(rank, place);
+    reach(world, positions, at, call);
+    look_at_place(world, positions, at, call)
 }
 
-/// Looks at the rank in hand until it waits or rests.
-fn settle_rank(world: &World, positions: &mut Positions, rank: u16)
-    requires { HaveInHand world.now positions.old rank }
+/// Moves the rank in hand on by one, and looks at it there.
+#[inline(always)]
+fn step(world: &World, positions: &mut Positions, rank: u16) -> Look
+    requires in_hand { HaveInHand world.now positions.old rank }
+    requires moves { RankTells world.now positions.old rank Look.Moves }
+    requires room { slice_index positions.old.stands.items rank < most_calls }
+    ensures in_hand { HaveInHand world.now positions.new rank }
+    ensures tells { RankTells world.now positions.new rank result }
+    ensures room { result ≡ Look.Moves → slice_index positions.new.stands.items rank < most_calls }
+    ensures goes_on { GoOn positions.old positions.new }
+    ensures falls { left_to_do world.now positions.new < left_to_do world.now positions.old }
+{
+    move_on(&mut positions.stands, rank);
+    let place = positions.stand(rank);
+    come_to(world, positions, rank, place)
+}
+
+/// Lets the rank in hand go, which can't move on: it is linked where it waits, unless it rests.
+#[inline(always)]
+fn let_go(world: &World, positions: &mut Positions, rank: u16, look: Look)
+    requires in_hand { HaveInHand world.now positions.old rank }
+    requires tells { RankTells world.now positions.old rank look }
+    requires stays { look ≢ Look.Moves }
     ensures kept { AreKept world.now positions.new }
     ensures goes_on { GoOn positions.old positions.new }
     ensures no_more { left_to_do world.now positions.new ≤ left_to_do world.now positions.old }
 {
-    while settle_one(world, positions, rank) {}
+    // For the proof: the world is looked at no more.
+    let _world = world;
+    match look {
+        Look::Over | Look::Moves => {}
+        Look::Partner { place } => positions.waiters.wait_for_partner(rank, place),
+        Look::Wave { comm } => positions.waiters.wait_for_wave(rank, comm),
+    }
+}
+
+/// Moves the rank in hand on, at which a look answered this, until it waits or rests.
+fn settle_rank(world: &World, positions: &mut Positions, rank: u16, look: Look)
+    requires in_hand { HaveInHand world.now positions.old rank }
+    requires tells { RankTells world.now positions.old rank look }
+    requires room { look ≡ Look.Moves → slice_index positions.old.stands.items rank < most_calls }
+    ensures kept { AreKept world.now positions.new }
+    ensures goes_on { GoOn positions.old positions.new }
+    ensures no_more { left_to_do world.now positions.new ≤ left_to_do world.now positions.old }
+{
+    let mut look = look;
+    while matches!(look, Look::Moves) {
+        look = step(world, positions, rank);
+    }
+    let_go(world, positions, rank, look);
 }
 
 /// Looks at ranks until none is to be looked at. It takes no memory.
@@ -271,7 +297,8 @@ fn settle(world: &World, positions: &mut Positions)
     ensures goes_on { GoOn positions.old positions.new }
 {
     while let Some(rank) = positions.waiters.next() {
-        settle_rank(world, positions, rank);
+        let look = look_at(world, positions, rank);
+        settle_rank(world, positions, rank, look);
     }
 }
 
@@ -284,8 +311,8 @@ pub(crate) fn arrive(world: &World, positions: &mut Positions, rank: u16, place:
     ensures goes_on { GoOn positions.old positions.new }
 {
     if positions.stand(rank) == place {
-        reach(world, positions, rank, place);
-        settle_rank(world, positions, rank);
+        let look = come_to(world, positions, rank, place);
+        settle_rank(world, positions, rank, look);
         settle(world, positions);
     }
 }
