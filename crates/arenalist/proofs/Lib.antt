@@ -7,3 +7,7 @@ pub mod LinkLemmas
 pub mod EntryLemmas
 pub mod ArenaLemmas
 pub mod SpliceLemmas
+pub mod CellLemmas
+pub mod ChainLemmas
+pub mod CountingLemmas
+pub mod QueueLemmas

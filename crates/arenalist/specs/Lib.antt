@@ -1,4 +1,5 @@
 pub mod Arena
+pub mod Queued
 pub mod Numbers
 pub mod Lends
 pub mod inner
