@@ -9,10 +9,7 @@ use Rattle.std.proofs.lemmas.Map.Keys.{apart_from_distinct}
 use Rattle.std.proofs.lemmas.Option.{slice_get_within, get_or_from_slice_get}
 use Rattle.std.proofs.lemmas.Bool.{false≢true, cases_Bool}
 use Rattle.indexmap.specs.IndexSet.{insert_key}
-use Rattle.arenalist.specs.Arena.{first_value, linked}
-use Rattle.arenalist.specs.inner.Arena.{contents}
 use Rattle.arenalist.specs.Numbers.{list_at}
-use Rattle.arenalist.proofs.ContentsLemmas.{values, contents_at, contents_drop, contents_linked, first_content}
 use Rattle.callstore.specs.declared.envelope.Envelope.{Envelope}
 use Rattle.callstore.specs.declared.envelope.Half.{Half}
 use Rattle.callstore.specs.declared.envelope.Half.TheVariants.{Send as SendHalf, Recv as RecvHalf}
@@ -23,24 +20,18 @@ use Rattle.callstore.proofs.PlaceLemmas.{slice_get_there}
 use Rattle.pairing.proofs.RequestLaws.{some_parts}
 use Rattle.pairing.proofs.PartnerLemmas.{same_envelope_true, same_envelope_refl}
 
--- the first pending place
-pub first_pending : (lists : List (List (ℕ × ℕ))) (half : Half) (number : ℕ) → first_value (list_at lists (list_no half number)) ≡ slice_get (pending_at (contents lists) half number) 0
-first_pending lists half number = first_content lists (list_no half number)
-
 -- a place is taken out of a list, or put into one
-pub met_popped : (lists : List (List (ℕ × ℕ))) (half : Half) (number place there l : ℕ) → l ≡ list_no (other_half half) number → first_value (list_at lists l) ≡ Some there → contents (set lists l (drop 1 (list_at lists l))) ≡ met (contents lists) half number place
+pub met_popped : (lists : List (List ℕ)) (half : Half) (number place there l : ℕ) → l ≡ list_no (other_half half) number → slice_get (list_at lists l) 0 ≡ Some there → set lists l (drop 1 (list_at lists l)) ≡ met lists half number place
 met_popped lists half number place there l is front =
-    let first : slice_get (pending_at (contents lists) (other_half half) number) 0 ≡ Some there = sym (first_pending lists (other_half half) number) ∙ ap (λ (m : ℕ). first_value (list_at lists m)) (sym is) ∙ front in
-    ap (λ (m : ℕ). contents (set lists m (drop 1 (list_at lists m)))) is
-    ∙ contents_drop lists (list_no (other_half half) number)
-    ∙ ap (λ (o : Option ℕ). met_if (is_some o) (contents lists) half number place) (sym first)
+    let first : slice_get (pending_at lists (other_half half) number) 0 ≡ Some there = ap (λ (m : ℕ). slice_get (list_at lists m) 0) (sym is) ∙ front in
+    ap (λ (m : ℕ). set lists m (drop 1 (list_at lists m))) is
+    ∙ ap (λ (o : Option ℕ). met_if (is_some o) lists half number place) (sym first)
 
-pub met_pushed : (lists : List (List (ℕ × ℕ))) (half : Half) (number place node l m : ℕ) → l ≡ list_no half number → m ≡ list_no (other_half half) number → first_value (list_at lists m) ≡ None → contents (linked lists l node place) ≡ met (contents lists) half number place
-met_pushed lists half number place node l m is other front =
-    let first : slice_get (pending_at (contents lists) (other_half half) number) 0 ≡ None = sym (first_pending lists (other_half half) number) ∙ ap (λ (k : ℕ). first_value (list_at lists k)) (sym other) ∙ front in
-    ap (λ (k : ℕ). contents (linked lists k node place)) is
-    ∙ contents_linked lists (list_no half number) node place
-    ∙ ap (λ (o : Option ℕ). met_if (is_some o) (contents lists) half number place) (sym first)
+pub met_pushed : (lists : List (List ℕ)) (half : Half) (number place l m : ℕ) → l ≡ list_no half number → m ≡ list_no (other_half half) number → slice_get (list_at lists m) 0 ≡ None → set lists l (list_at lists l ++ place ∷ []) ≡ met lists half number place
+met_pushed lists half number place l m is other front =
+    let first : slice_get (pending_at lists (other_half half) number) 0 ≡ None = ap (λ (k : ℕ). slice_get (list_at lists k) 0) (sym other) ∙ front in
+    ap (λ (k : ℕ). set lists k (list_at lists k ++ place ∷ [])) is
+    ∙ ap (λ (o : Option ℕ). met_if (is_some o) lists half number place) (sym first)
 
 -- the numbers of lists
 pub list_no_most : (half : Half) (number : ℕ) → list_no half number ≤ 2 * number + 1
@@ -92,13 +83,10 @@ grown_key old new key keys lists unused spare work = record {
         past_end f none len number is = number_past (same_envelope f) old.keys key len number is
 
 -- where an envelope gets a number
-abbrev pub matching : List Envelope → List (List (ℕ × ℕ)) → ℕ → ℕ → Matching
-matching keys lists spare work = record { keys = keys; lists = contents lists; spare = spare; work = work }
+abbrev pub matching : List Envelope → List (List ℕ) → ℕ → ℕ → Matching
+matching keys lists spare work = record { keys = keys; lists = lists; spare = spare; work = work }
 
-contents_unused : (lists : List (List (ℕ × ℕ))) (keys : ℕ) → ((l : ℕ) → 2 * keys ≤ l → list_at lists l ≡ []) → (l : ℕ) → 2 * keys ≤ l → list_at (contents lists) l ≡ []
-contents_unused lists keys unused l past = contents_at lists l ∙ ap values (unused l past)
-
-pub insert_grown : (keys keys' : List Envelope) (key : Envelope) (lists : List (List (ℕ × ℕ))) (spare work : ℕ) → keys' ≡ insert_key same_envelope keys key → HaveLists lists (length keys) → IsGrown (matching keys lists spare work) (matching keys' lists spare work)
+pub insert_grown : (keys keys' : List Envelope) (key : Envelope) (lists : List (List ℕ)) (spare work : ℕ) → keys' ≡ insert_key same_envelope keys key → HaveLists lists (length keys) → IsGrown (matching keys lists spare work) (matching keys' lists spare work)
 insert_grown keys keys' key lists spare work is have =
     ⊎_elim
     (λ (there : list_any (same_envelope key) keys ≡ true).
@@ -107,7 +95,7 @@ insert_grown keys keys' key lists spare work is have =
     (λ (absent : list_any (same_envelope key) keys ≡ false).
     grown_key (matching keys lists spare work) (matching keys' lists spare work) key
     (is ∙ ap (λ b. if b then keys else keys ++ key ∷ []) absent) refl
-    (contents_unused lists (length keys) have.unused) (omega arith) refl)
+    have.unused (omega arith) refl)
     (cases_Bool (list_any (same_envelope key) keys))
 
 -- what is pending once a list is written: the new places in it, and the same in the others

@@ -11,12 +11,15 @@ ghost use Rattle.callstore.specs.declared.envelope.Envelope.{Envelope};
 ghost use Rattle.pairing.specs.inner.Matched.{list_no, number_in, pending_at, pending_by, met, HasNumber, HasPending, HasRoomFor, IsGrown};
 
 use crate::envelope_index::EnvelopeIndex;
-use arenalist::lists::Lists;
+use arenalist::queues::Queues;
 use callstore::envelope::{Envelope, Half};
 use callstore::next_call::NextCall;
 use mpigroup::head::Head;
 use std::alloc::{AllocError, Global};
 use std::marker::Model;
+
+/// For so many places room is made at once.
+const PLACES_AT_ONCE: usize = 64;
 
 /// The envelope of a half of a call, with its number.
 #[derive(Clone, Copy)]
@@ -49,7 +52,7 @@ fn list_no(half: Half, number: usize) -> usize
 pub(crate) struct Matches {
     envelope_index: EnvelopeIndex,
     // Of the envelope with number n list 2n has the pending sends, and list 2n + 1 the pending receives.
-    pending: Lists<u32>,
+    pending: Queues<u32>,
 }
 
 // By hand: a derived drop is proved again at each exit of a function that owns one.
@@ -64,14 +67,13 @@ impl Drop for Matches {
 
 impl Model for Matches {
     ghost use Rattle.std.specs.Prelude.{length};
-    ghost use Rattle.arenalist.specs.inner.Arena.{contents};
     ghost use Rattle.pairing.specs.inner.Matched.{Matching, HaveLists};
 
     ghost Value = { Matching };
 
     ghost view = { λ m. record {
       keys = m.envelope_index;
-      lists = contents m.pending.lists;
+      lists = m.pending.lists;
       spare = m.pending.spare;
       work = m.pending.work;
     } };
@@ -87,7 +89,7 @@ impl Matches {
     {
         Ok(Matches {
             envelope_index: EnvelopeIndex::new(alloc)?,
-            pending: Lists::new(alloc),
+            pending: Queues::new(alloc),
         })
     }
 
@@ -163,6 +165,21 @@ impl Matches {
         }
     }
 
+    /// Makes room for two places; where it is lacking, for many, so that it seldom is.
+    #[inline(always)]
+    fn reserve_places(&mut self) -> Result<(), AllocError>
+        ensures grown { IsGrown self.old self.new }
+        ensures keys { self.new.keys ≡ self.old.keys }
+        ensures lists { self.new.lists ≡ self.old.lists }
+        ensures room { OnOk result (2 ≤ self.new.spare) }
+    {
+        if self.pending.spare() >= 2 {
+            return Ok(());
+        }
+        self.pending.reserve(PLACES_AT_ONCE)?;
+        Ok(())
+    }
+
     /// Makes room for the halves of a rank's call, and answers them. Nothing else changes.
     #[inline(always)]
     pub(crate) fn reserve(
@@ -176,7 +193,7 @@ impl Matches {
     {
         let send = self.number_half(call.envelope(head, rank, Half::Send))?;
         let recv = self.number_half(call.envelope(head, rank, Half::Recv))?;
-        self.pending.reserve(2)?;
+        self.reserve_places()?;
         Ok(Halves { send, recv })
     }
 
@@ -195,8 +212,8 @@ impl Matches {
     {
         // For the proof: there are more lists than that, so the numbers are small.
         let _lists = self.pending.list_count();
-        let own = self.pending.list(list_no(half, number));
-        let other = self.pending.list(list_no(half.other(), number));
+        let own = list_no(half, number);
+        let other = list_no(half.other(), number);
         match self.pending.pop_front(other) {
             Some(there) => Some(there),
             None => {
@@ -213,10 +230,7 @@ impl Matches {
     {
         // For the proof: there are more lists than that, so the number is small.
         let _lists = self.pending.list_count();
-        match self.pending.first(self.pending.list(list_no(half, number))) {
-            Some(node) => Some(*self.pending.get(node)),
-            None => None,
-        }
+        self.pending.front(list_no(half, number))
     }
 
     /// The first of the envelope's pending halves; None where none is pending.

@@ -28,7 +28,7 @@ pub record Matching : Type 0 where
   pub work : ℕ
 
 -- there are lists for all envelopes that have a number, and the others are empty
-pub record HaveLists (lists : List (List (ℕ × ℕ))) (keys : ℕ) : Type 0 where
+pub record HaveLists (lists : List (List ℕ)) (keys : ℕ) : Type 0 where
   pub enough : 2 * keys ≤ length lists
   pub unused : (l : ℕ) → 2 * keys ≤ l → list_at lists l ≡ []
 
