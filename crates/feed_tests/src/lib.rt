@@ -11,6 +11,8 @@ mod feeds;
 #[cfg(test)]
 mod linked_lists;
 #[cfg(test)]
+mod queues;
+#[cfg(test)]
 mod rings;
 #[cfg(test)]
 mod std_devices;

@@ -14,14 +14,14 @@ ghost use Rattle.arenalist.specs.Numbers.{list_at};
 ghost use Rattle.arenalist.specs.Arena.{counted};
 ghost use Rattle.moves.specs.inner.Waiting.{own_list, comm_list, woken, with_rank, with_awaited, woken_at};
 
-use arenalist::lists::Lists;
+use arenalist::queues::Queues;
 use std::alloc::{AllocError, Global};
 use std::marker::Model;
 
 /// The worklist, a list for each rank, where it waits for a partner, and one for each communicator, for the
 /// ranks that wait for its waves. A rank is in one list at most.
 pub(crate) struct Waiters {
-    lists: Lists<u16>,
+    lists: Queues<u16>,
     awaited: Vec<u32>,
 }
 
@@ -37,18 +37,17 @@ impl Drop for Waiters {
 
 impl Model for Waiters {
     ghost use Rattle.std.specs.Prelude.{length, ◌≤◌, ◌+◌};
-    ghost use Rattle.arenalist.specs.inner.Arena.{contents};
     ghost use Rattle.moves.specs.inner.Waiting.{WaitLists};
 
     ghost Value = { WaitLists };
 
-    ghost view = { λ w. record { lists = contents w.lists.lists; spare = w.lists.spare; work = w.lists.work; awaited = w.awaited.items } };
+    ghost view = { λ w. record { lists = w.lists.lists; spare = w.lists.spare; work = w.lists.work; awaited = w.awaited.items } };
 
     ghost invariant = { λ w. 1 + length w.awaited.items ≤ length w.lists.lists };
 }
 
 /// Makes so many lists.
-fn make_lists(lists: &mut Lists<u16>, count: usize) -> Result<(), AllocError>
+fn make_lists(lists: &mut Queues<u16>, count: usize) -> Result<(), AllocError>
     requires { lists.old.lists ≡ [] }
     ensures lists { OnOk result (lists.new.lists ≡ replicate count []) }
     ensures spare { OnOk result (lists.new.spare ≡ lists.old.spare) }
@@ -62,14 +61,13 @@ fn make_lists(lists: &mut Lists<u16>, count: usize) -> Result<(), AllocError>
 
 impl Waiters {
     /// No rank waits or is to be looked at.
-    #[tactic(auto, using(arenalist::proofs::ContentsLemmas::contents_none))]
     pub(crate) fn new(alloc: Global, ranks: u16, comms: u16) -> Result<Waiters, AllocError>
         ensures lists { IfOk result (λ waiters. waiters.lists ≡ replicate (1 + ranks + comms) []) }
         ensures spare { IfOk result (λ waiters. waiters.spare ≡ ranks) }
         ensures work { IfOk result (λ waiters. waiters.work ≡ 0) }
         ensures awaited { IfOk result (λ waiters. waiters.awaited ≡ replicate ranks 0) }
     {
-        let mut lists = Lists::new(alloc);
+        let mut lists = Queues::new(alloc);
         make_lists(&mut lists, 1 + usize::from(ranks) + usize::from(comms))?;
         lists.reserve(usize::from(ranks))?;
         let awaited = vec![in alloc; 0u32; usize::from(ranks)]?;
@@ -94,18 +92,17 @@ impl Waiters {
         ensures awaited { self.new.awaited ≡ self.old.awaited }
         ensures none { IfNone result (self.new ≡ self.old) }
     {
-        self.lists.pop_front(self.lists.list(0))
+        self.lists.pop_front(0)
     }
 
     /// Puts a rank into a list, where there is room.
     #[inline(always)]
-    #[tactic(auto, using(arenalist::proofs::ContentsLemmas::contents_linked))]
     fn put(&mut self, list: usize, rank: u16)
         requires list { list < length self.old.lists }
         requires room { 0 < self.old.spare }
         ensures { self.new ≡ with_rank self.old list rank }
     {
-        self.lists.push_reserved(self.lists.list(list), rank);
+        self.lists.push_reserved(list, rank);
     }
 
     /// The place of the operation for whose partner the rank waits, or waited last, or of the probe at which it does.
@@ -140,13 +137,12 @@ impl Waiters {
     }
 
     /// Puts the ranks of a list onto the worklist.
-    #[tactic(auto, using(arenalist::proofs::ContentsLemmas::contents_spliced, arenalist::proofs::ContentsLemmas::length_at))]
     fn wake(&mut self, list: usize)
         requires later { 0 < list }
         requires list { list < length self.old.lists }
         ensures { self.new ≡ woken self.old list }
     {
-        self.lists.append(self.lists.list(0), self.lists.list(list));
+        self.lists.append(0, list);
     }
 
     /// Wakes a rank if it waits for the partner of its operation at the place, or for the send that its probe there
