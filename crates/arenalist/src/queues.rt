@@ -136,11 +136,11 @@ impl<T: Copy> Queues<T> {
         requires { list < length self.now.lists }
         ensures { result ≡ slice_get (list_at self.now.lists list) 0 }
     {
-        let cell = first(&self.ends, list);
-        if cell == NO_CELL {
+        let foremost = first(&self.ends, list);
+        if foremost == NO_CELL {
             return None;
         }
-        Some(value(&self.cells, cell))
+        Some(value(&self.cells, foremost))
     }
 
     /// Takes the first value out of a list. Its node is spare then.

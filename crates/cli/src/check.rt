@@ -105,7 +105,7 @@ fn open_sources<'a, P: Opener>(
 }
 
 /// The bytes of the stack of a thread that reads a trace: there may be 1,024 of them. The largest values there are a
-/// source, 24 KB, and an array of 4,096 bytes.
+/// source, 12 KB, and an array of 4,096 bytes.
 const READER_STACK: usize = 256 * 1024;
 
 /// How the files that the paths name are read: each by a thread where a read of one may wait, else by turns.

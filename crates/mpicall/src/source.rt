@@ -1,6 +1,6 @@
 //! A source of records: the lines of an input, read one by one.
 //!
-//! A source takes 24 KB in place: a buffer of 16 KB, into which reads go straight, and the last lines with
+//! A source takes 12 KB in place: a buffer of 4 KB, into which reads go straight, and the last lines with
 //! their records. So a source takes no memory of its own. A record has 264 bytes, so it is read into one
 //! place of the caller's, which is written once the whole line was read: a fault leaves it as it was.
 

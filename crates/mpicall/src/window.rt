@@ -13,7 +13,7 @@ use memchr::memchr;
 use std::marker::Model;
 
 /// How many bytes may be held.
-const CAPACITY: usize = 16384;
+const CAPACITY: usize = 4096;
 
 /// Bytes that were read and not yet used; contracts see their list.
 #[derive(Drop)]

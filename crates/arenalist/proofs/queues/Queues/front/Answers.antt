@@ -6,23 +6,23 @@ use Rattle.arenalist.proofs.CellLemmas.{long_nexts, all_valued}
 use Rattle.arenalist.proofs.QueueLemmas.{first_in, list_in, front_some, front_none}
 use Rattle.arenalist.proofs.queues.Queues.front.Goals as goal
 
-pub first-cell-requires : goal.first-cell-requires
-first-cell-requires g c = list_in _ _ _ _ _ (ap (λ (q : Queued g.row.T.Denot). q.lists) c.self.view_is) c.requires
+pub first-foremost-requires : goal.first-foremost-requires
+first-foremost-requires g c = list_in _ _ _ _ _ (ap (λ (q : Queued g.row.T.Denot). q.lists) c.self.view_is) c.requires
 
-pub returns-then-cell : goal.returns-then-cell
-returns-then-cell g c =
+pub returns-then-foremost : goal.returns-then-foremost
+returns-then-foremost g c =
     let l_in = first_in _ _ _ _ _ (ap (λ (q : Queued g.row.T.Denot). q.lists) c.self.view_is) c.requires in
     sym (ap (λ (q : Queued g.row.T.Denot). slice_get (list_at q.lists c.args.list) 0) (sym c.self.view_is)
-    ∙ ap (λ (vs : List g.row.T.Denot). slice_get vs 0) (front_none _ _ _ _ _ _ c.args.list c.self.invariant l_in (sym c.first-cell.ensures ∙ c.if-cell.true)))
+    ∙ ap (λ (vs : List g.row.T.Denot). slice_get vs 0) (front_none _ _ _ _ _ _ c.args.list c.self.invariant l_in (sym c.first-foremost.ensures ∙ c.if-foremost.true)))
 
 pub value-requires : goal.value-requires
 value-requires g c =
     let l_in = first_in _ _ _ _ _ (ap (λ (q : Queued g.row.T.Denot). q.lists) c.self.view_is) c.requires in
-    let it = front_some _ _ _ _ _ _ c.args.list c.first-cell.result c.self.invariant (all_valued c.self.inside.cells.items) l_in c.first-cell.ensures c.if-cell.false in
+    let it = front_some _ _ _ _ _ _ c.args.list c.first-foremost.result c.self.invariant (all_valued c.self.inside.cells.items) l_in c.first-foremost.ensures c.if-foremost.false in
     omega (arith, it.0, long_nexts c.self.inside.cells.items)
 
 pub returns : goal.returns
 returns g c =
     let l_in = first_in _ _ _ _ _ (ap (λ (q : Queued g.row.T.Denot). q.lists) c.self.view_is) c.requires in
-    let it = front_some _ _ _ _ _ _ c.args.list c.first-cell.result c.self.invariant (all_valued c.self.inside.cells.items) l_in c.first-cell.ensures c.if-cell.false in
+    let it = front_some _ _ _ _ _ _ c.args.list c.first-foremost.result c.self.invariant (all_valued c.self.inside.cells.items) l_in c.first-foremost.ensures c.if-foremost.false in
     sym (ap (λ (q : Queued g.row.T.Denot). slice_get (list_at q.lists c.args.list) 0) (sym c.self.view_is) ∙ it.1 ∙ c.value.ensures)
