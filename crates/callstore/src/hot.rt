@@ -7,7 +7,8 @@
 //! To keep in mind here: the kit drops `#[inline(always)]` without a word from a function that becomes too
 //! large, so what comes rarely is `#[inline(never)]`. Each local value that is no number is cleared where
 //! its function begins, so rare arms are functions of their own. A kind that is only assumed
-//! (`unreachable!`) is forgotten before looks are built, so looks ask for it.
+//! (`unreachable!`) is forgotten before looks are built, and a kind that was asked for once something is
+//! written; so looks ask for it, and what notes a call asks again.
 
 ghost use Rattle.std.specs.Prelude.{◌≡◌};
 ghost use Rattle.callstore.specs.Hot.{hot_kind};

@@ -26,7 +26,7 @@
 //! ```text
 //! let mut notes = Notes::new(alloc, 2)?;
 //! notes.reserve(0, &isend)?;
-//! notes.note(0, &isend, CachedMatch::Nothing, &[]);            // rank 0: isend 7 0 1 5
+//! notes.note::<ISEND>(0, &isend, CachedMatch::Nothing, &[]);   // rank 0: isend 7 0 1 5
 //! notes.get(0, 0)?.call().message(Half::Send)                  // communicator 0, peer 1, tag 5
 //! ```
 #![tactic(auto)]

@@ -1,6 +1,6 @@
 //! The noted calls of all ranks.
 
-ghost use Rattle.std.specs.Prelude.{◌≡◌, ◌<◌, ◌≤◌, [], length, replicate, slice_get, IfOk, IfSome, OnOk};
+ghost use Rattle.std.specs.Prelude.{◌≡◌, ◌-◌, ◌<◌, ◌≤◌, [], length, replicate, slice_get, IfOk, IfSome, OnOk};
 ghost use Rattle.callstore.specs.Limits.{most_calls};
 ghost use Rattle.callstore.specs.Requests.{waits_for};
 ghost use Rattle.callstore.specs.Notes.{notes_of, with_note, partnered, calls_in, AreStarts, HasRoom};
@@ -85,9 +85,15 @@ impl Notes {
     }
 
     /// Notes the rank's next call, with what is kept with it and the places that started the requests which
-    /// it names: one for each, in its order. This takes no memory.
+    /// it names: one for each, in its order. This takes no memory. It is fastest for a call of the kind.
     #[inline(always)]
-    pub fn note(&mut self, rank: u16, call: &Record, cached: CachedMatch, starts: &[u32])
+    pub fn note<const KIND: u8>(
+        &mut self,
+        rank: u16,
+        call: &Record,
+        cached: CachedMatch,
+        starts: &[u32],
+    )
         requires is_rank { rank < length self.old.lists }
         requires room { HasRoom self.old rank call.now }
         requires starts { AreStarts (calls_in (notes_of self.old.lists rank)) call.now starts.now }
@@ -95,7 +101,7 @@ impl Notes {
         ensures { self.new.lists ≡ with_note self.old.lists rank (noted call.now cached starts.now) }
     {
         let list = &mut self.lists[usize::from(rank)];
-        list.note(call, cached, starts);
+        list.note::<KIND>(call, cached, starts);
     }
 
     /// Keeps the place of a half's partner with the rank's call at the place, if there is one.
@@ -106,6 +112,17 @@ impl Notes {
         if usize::from(rank) < self.lists.len() {
             let list = &mut self.lists[usize::from(rank)];
             list.set_partner(place, half, there);
+        }
+    }
+
+    /// The last noted call of a rank; None where there is none.
+    #[inline(always)]
+    pub fn last(&self, rank: u16) -> Option<Note<'_>>
+        ensures { result ≡ slice_get (notes_of self.now.lists rank) (length (notes_of self.now.lists rank) - 1) }
+    {
+        match self.lists.get(usize::from(rank)) {
+            Some(list) => list.last(),
+            None => None,
         }
     }
 

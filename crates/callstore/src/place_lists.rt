@@ -3,7 +3,7 @@
 ghost use Rattle.std.specs.Prelude.{◌≡◌, ◌<◌, [], ◌∷◌, ◌++◌, length, replicate, slice_get, IfOk, OnErr, OnOk};
 ghost use Rattle.callstore.specs.Seats.{list_in, with_place_in, HasRoomIn};
 
-use crate::growth::more_room;
+use crate::growth::make_room;
 use std::alloc::{AllocError, Global};
 use std::marker::Model;
 
@@ -41,8 +41,7 @@ impl PlaceList {
         ensures places { self.new.places ≡ self.old.places }
         ensures room { OnOk result (length self.new.places < self.new.room) }
     {
-        self.places
-            .reserve(more_room(self.places.len(), PLACES_A_BLOCK))
+        make_room(&mut self.places, PLACES_A_BLOCK)
     }
 
     /// Adds a place, for which there is room.

@@ -1,6 +1,6 @@
 //! The noted calls of one rank.
 
-ghost use Rattle.std.specs.Prelude.{◌≡◌, ◌+◌, ◌<◌, ◌≤◌, [], ◌∷◌, ◌++◌, length, slice_get, vec_len, vec_capacity, IfSome, OnOk};
+ghost use Rattle.std.specs.Prelude.{◌≡◌, ◌+◌, ◌-◌, ◌<◌, ◌≤◌, [], ◌∷◌, ◌++◌, length, slice_get, vec_len, vec_capacity, IfSome, OnOk};
 ghost use Rattle.callstore.specs.Limits.{most_calls};
 ghost use Rattle.callstore.specs.Requests.{waits_for};
 ghost use Rattle.callstore.specs.Notes.{calls_in, partnered_in, AreStarts, Holds};
@@ -8,7 +8,8 @@ ghost use Rattle.callstore.specs.Packed.{noted};
 
 use crate::cached_match::CachedMatch;
 use crate::envelope::Half;
-use crate::growth::more_room;
+use crate::growth::make_room;
+use crate::hot::hot_kind;
 use crate::note::Note;
 use crate::packed::Entry;
 use crate::packing::{listed, listed_starts, pack};
@@ -91,16 +92,15 @@ impl RankNotes {
         ensures calls { self.new.calls ≡ self.old.calls }
         ensures ok { OnOk result (Holds self.new.room call.now) }
     {
-        self.entries
-            .reserve(more_room(self.entries.len(), ENTRIES_A_BLOCK))?;
+        make_room(&mut self.entries, ENTRIES_A_BLOCK)?;
         self.starts.reserve(listed(call.as_call()).len())?;
         Ok(())
     }
 
-    /// Notes the rank's next call, with what is kept with it and the places that started the requests which
-    /// it names.
+    /// Puts the rank's next call after the others, with what is kept with it and the places that started the requests
+    /// which it names.
     #[inline(always)]
-    pub(crate) fn note(&mut self, call: &Record, cached: CachedMatch, starts: &[u32])
+    fn push(&mut self, call: &Record, cached: CachedMatch, starts: &[u32])
         requires room { Holds self.old.room call.now }
         requires starts { AreStarts (calls_in self.old.calls) call.now starts.now }
         requires few { length self.old.calls < most_calls }
@@ -115,6 +115,38 @@ impl RankNotes {
         });
     }
 
+    /// Notes any call: the slow way, for calls that come seldom.
+    #[inline(never)]
+    fn note_any(&mut self, call: &Record, cached: CachedMatch, starts: &[u32])
+        requires room { Holds self.old.room call.now }
+        requires starts { AreStarts (calls_in self.old.calls) call.now starts.now }
+        requires few { length self.old.calls < most_calls }
+        ensures { self.new.calls ≡ self.old.calls ++ noted call.now cached starts.now ∷ [] }
+    {
+        self.push(call, cached, starts);
+    }
+
+    /// Notes the rank's next call, with what is kept with it and the places that started the requests which
+    /// it names. What is built for the kind of call packs such calls alone; another goes the slow way.
+    #[inline(always)]
+    pub(crate) fn note<const KIND: u8>(
+        &mut self,
+        call: &Record,
+        cached: CachedMatch,
+        starts: &[u32],
+    )
+        requires room { Holds self.old.room call.now }
+        requires starts { AreStarts (calls_in self.old.calls) call.now starts.now }
+        requires few { length self.old.calls < most_calls }
+        ensures { self.new.calls ≡ self.old.calls ++ noted call.now cached starts.now ∷ [] }
+    {
+        if hot_kind(call.as_call()) == KIND {
+            self.push(call, cached, starts);
+        } else {
+            self.note_any(call, cached, starts);
+        }
+    }
+
     /// Keeps the place of a half's partner with the call at the place, if there is one.
     #[inline(always)]
     pub(crate) fn set_partner(&mut self, place: u32, half: Half, there: u32)
@@ -123,6 +155,19 @@ impl RankNotes {
         if (place as usize) < self.entries.len() {
             let entry = &mut self.entries[place as usize];
             entry.cached = entry.cached.with_partner(half, there);
+        }
+    }
+
+    /// The last noted call; None where there is none.
+    #[inline(always)]
+    pub(crate) fn last(&self) -> Option<Note<'_>>
+        ensures { result ≡ slice_get self.now.calls (length self.now.calls - 1) }
+    {
+        match self.entries.last() {
+            Some(entry) => {
+                Some(Note::of(entry, self.entries.as_slice(), self.starts.as_slice()))
+            }
+            None => None,
         }
     }
 

@@ -1,15 +1,16 @@
 -- What one more call changes about the active requests of ranks.
-use Rattle.std.proofs.Common.{◌≡◌, ℕ, zero, suc, ◌<◌, ◌==◌, ◌&&◌, true, false, if◌then◌else◌, Option, Some, None, List, [], ◌∷◌, ◌++◌, length, map, get_or, replicate, refl, sym, ap, ◌∙◌, ⊎_elim, arith}
+use Rattle.std.proofs.Common.{◌≡◌, ℕ, zero, suc, ◌<◌, ◌≤◌, ◌==◌, ◌&&◌, true, false, if◌then◌else◌, Option, Some, None, List, [], ◌∷◌, ◌++◌, length, map, get_or, replicate, refl, sym, ap, ◌∙◌, ⊎_elim, arith}
 use Rattle.std.specs.List.{list_all}
 use Rattle.std.proofs.lemmas.List.Folds.{list_all_at}
 use Rattle.std.specs.Option.{is_some, option_or}
-use Rattle.std.proofs.lemmas.Bool.{cases_eq, cases_Bool, eq-eqb}
+use Rattle.std.proofs.lemmas.Bool.{cases_eq, cases_Bool, both_ways, eq-eqb}
 use Rattle.std.proofs.lemmas.Bool.Decides.{nat_tests}
 use Rattle.std.proofs.lemmas.Grind.{common_steps}
 use Rattle.mpicall.specs.declared.call.Call.{Call}
+use Rattle.indexmap.specs.IndexMap.{spare}
 use Rattle.callstore.specs.Recordings.{Lists, calls_of, appended}
 use Rattle.callstore.specs.Requests.{does_start, does_complete, started_in, is_active, HasActive}
-use Rattle.pairing.specs.inner.Starts.{cell_in, place_at, place_in, IsActive}
+use Rattle.pairing.specs.inner.Starts.{cell_in, place_at, place_in, has_cell, IsActive, HasRoomToStart}
 use Rattle.pairing.specs.declared.active.Request.{Request}
 use Rattle.pairing.specs.declared.active.ActiveRequest.{ActiveRequest}
 use Rattle.pairing.specs.declared.active.Active.{Active}
@@ -82,3 +83,10 @@ other_active recording active (entry ∷ entries) is some is_table = record {
       ap is_some (sym (is_table entry.0.rank entry.0.req))
       ∙ rw (is, eq-eqb entry.0.rank entry.0.rank refl, eq-eqb entry.0.req entry.0.req refl) (or_some (place_at entry.0.req (cell_in active entry.0.rank entry.0.req)) entry.1);
 }
+
+-- as cells are emptied, there is room for what the call starts
+pub room_still : (old new : Active) (rank : ℕ) (call : Call) → ((r q : ℕ) → has_cell old r q ≡ true → has_cell new r q ≡ true) → spare old.others ≤ spare new.others → HasRoomToStart old rank call → HasRoomToStart new rank call
+room_still old new rank call free more room req starts none =
+    ⊎_elim (λ (yes : has_cell old rank req ≡ true). absurd (both_ways (has_cell new rank req) none (free rank req yes)))
+    (λ (no : has_cell old rank req ≡ false). omega (arith, more, room req starts no))
+    (cases_Bool (has_cell old rank req))

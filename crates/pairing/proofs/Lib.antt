@@ -11,6 +11,7 @@ pub mod FiledLemmas
 pub mod JoinedLemmas
 pub mod HoldingLemmas
 pub mod ActiveLemmas
+pub mod AscendingLemmas
 pub mod ProbedLemmas
 pub mod CallCountLemmas
 pub mod ProbingLemmas

@@ -1,4 +1,5 @@
 -- What nobody has to believe: these definitions are cited by proofs and private contracts alone.
+pub mod Ascending
 pub mod Holdings
 pub mod Joined
 pub mod Kept

@@ -12,7 +12,7 @@ ghost use Rattle.std.proofs.Common.{rules};
 ghost use Rattle.indexmap.specs.IndexMap.{spare};
 ghost use Rattle.callstore.specs.Recordings.{Lists, calls_of, appended};
 ghost use Rattle.callstore.specs.Requests.{started_in, is_among, is_active, does_start, HasActive};
-ghost use Rattle.pairing.specs.inner.Starts.{cell_no, cell_in, place_at, place_in, has_place, IsActive, HasRoomToStart};
+ghost use Rattle.pairing.specs.inner.Starts.{cell_no, cell_in, place_at, other_in, place_in, has_place, has_cell, IsActive, HasRoomToStart};
 
 use callstore::next_call::NextCall;
 use indexmap::IndexMap;
@@ -76,22 +76,37 @@ impl Active {
         })
     }
 
-    /// Makes room for what the call starts, if it starts something. The table says the same after it.
+    /// Whether the rank's request finds no other in its cell.
     #[inline(always)]
-    pub(crate) fn reserve(&mut self, call: &NextCall<'_>) -> Result<(), AllocError>
-        ensures kept { (recording : Lists) → IsActive recording self.old → IsActive recording self.new }
-        ensures ok { OnOk result (HasRoomToStart self.new call.now) }
+    fn has_cell(&self, rank: u16, req: u32) -> bool
+        ensures { result ≡ has_cell self.now rank req }
     {
-        match call.starts() {
-            Some(_) => self.others.reserve(1),
-            None => Ok(()),
+        match self.cells.get(cell_no(rank, req)) {
+            Some(Some(start)) => start.req == req,
+            Some(None) => true,
+            None => false,
         }
+    }
+
+    /// Makes room for what the rank's call starts, if it starts something. The table says the same after it.
+    #[inline(always)]
+    pub(crate) fn reserve(&mut self, rank: u16, call: &NextCall<'_>) -> Result<(), AllocError>
+        ensures kept { (recording : Lists) → IsActive recording self.old → IsActive recording self.new }
+        ensures ok { OnOk result (HasRoomToStart self.new rank call.now) }
+    {
+        if let Some(req) = call.starts() {
+            if !self.has_cell(rank, req) {
+                return self.others.reserve(1);
+            }
+        }
+        Ok(())
     }
 
     /// Empties the rank's cell of the request, if that is there.
     #[inline(always)]
     fn empty(&mut self, rank: u16, req: u32)
         ensures cells { (r q : ℕ) → place_at q (cell_in self.new r q) ≡ (if r == rank && req == q then None else place_at q (cell_in self.old r q)) }
+        ensures free { (r q : ℕ) → has_cell self.old r q ≡ true → has_cell self.new r q ≡ true }
         ensures others { self.new.others ≡ self.old.others }
     {
         let no = cell_no(rank, req);
@@ -104,15 +119,26 @@ impl Active {
         }
     }
 
+    /// Takes out the rank's request, if it found another one in its cell.
+    #[inline(never)]
+    fn remove_other(&mut self, rank: u16, req: u32)
+        ensures others { (r q : ℕ) → other_in self.new r q ≡ (if r == rank && req == q then None else other_in self.old r q) }
+        ensures cells { self.new.cells ≡ self.old.cells }
+        ensures room { spare self.old.others ≤ spare self.new.others }
+    {
+        self.others.swap_remove(&Request { rank, req });
+    }
+
     /// Takes out the rank's request, if it is there.
     #[inline(always)]
     fn remove(&mut self, rank: u16, req: u32)
         ensures taken { (r q : ℕ) → place_in self.new r q ≡ (if r == rank && req == q then None else place_in self.old r q) }
+        ensures free { (r q : ℕ) → has_cell self.old r q ≡ true → has_cell self.new r q ≡ true }
         ensures room { spare self.old.others ≤ spare self.new.others }
     {
         self.empty(rank, req);
         if !self.others.is_empty() {
-            self.others.swap_remove(&Request { rank, req });
+            self.remove_other(rank, req);
         }
     }
 
@@ -121,6 +147,7 @@ impl Active {
     fn fill(&mut self, rank: u16, req: u32, place: u32) -> bool
         ensures filled { result ≡ true → (r q : ℕ) → place_at q (cell_in self.new r q) ≡ (if r == rank && req == q then Some place else place_at q (cell_in self.old r q)) }
         ensures taken { result ≡ false → (place_at req (cell_in self.old rank req) ≡ None) × (self.new ≡ self.old) }
+        ensures free { result ≡ has_cell self.old rank req }
         ensures others { self.new.others ≡ self.old.others }
     {
         let no = cell_no(rank, req);
@@ -136,14 +163,24 @@ impl Active {
         true
     }
 
+    /// Puts in the rank's request, which found another one in its cell.
+    #[inline(never)]
+    fn insert_other(&mut self, rank: u16, req: u32, place: u32)
+        requires { 0 < spare self.old.others }
+        ensures others { (r q : ℕ) → other_in self.new r q ≡ (if r == rank && req == q then Some place else other_in self.old r q) }
+        ensures cells { self.new.cells ≡ self.old.cells }
+    {
+        self.others.insert(Request { rank, req }, place).unwrap();
+    }
+
     /// Puts in the rank's request, which the call at the place starts.
     #[inline(always)]
     fn insert(&mut self, rank: u16, req: u32, place: u32)
-        requires { 0 < spare self.old.others }
+        requires { has_cell self.old rank req ≡ false → 0 < spare self.old.others }
         ensures { (r q : ℕ) → place_in self.new r q ≡ (if r == rank && req == q then Some place else place_in self.old r q) }
     {
         if !self.fill(rank, req, place) {
-            self.others.insert(Request { rank, req }, place).unwrap();
+            self.insert_other(rank, req, place);
         }
     }
 
@@ -151,6 +188,7 @@ impl Active {
     #[inline(always)]
     fn complete(&mut self, rank: u16, reqs: &[u32])
         ensures taken { (r req : ℕ) → place_in self.new r req ≡ (if r == rank && is_among req reqs.now then None else place_in self.old r req) }
+        ensures free { (r q : ℕ) → has_cell self.old r q ≡ true → has_cell self.new r q ≡ true }
         ensures room { spare self.old.others ≤ spare self.new.others }
     {
         for req in reqs {
@@ -161,7 +199,7 @@ impl Active {
     /// Puts in the request that the call at the place starts, if it starts one.
     #[inline(always)]
     fn start(&mut self, rank: u16, place: u32, call: &NextCall<'_>)
-        requires { HasRoomToStart self.old call.now }
+        requires { HasRoomToStart self.old rank call.now }
         ensures { (r req : ℕ) → place_in self.new r req ≡ (if r == rank && does_start req call.now then Some place else place_in self.old r req) }
     {
         if let Some(req) = call.starts() {
@@ -173,12 +211,20 @@ impl Active {
     /// takes no memory.
     #[inline(always)]
     pub(crate) fn put(&mut self, rank: u16, place: u32, call: &NextCall<'_>)
-        requires { HasRoomToStart self.old call.now }
+        requires { HasRoomToStart self.old rank call.now }
         ensures { (recording : Lists) → IsActive recording self.old → rank < length recording →
             place ≡ length (calls_of recording rank) → IsActive (appended recording rank call.now) self.new }
     {
         self.complete(rank, call.completes());
         self.start(rank, place, call);
+    }
+
+    /// The place that started the rank's request, if it is active and found another one in its cell.
+    #[inline(never)]
+    fn other_start_of(&self, rank: u16, req: u32) -> Option<u32>
+        ensures { result ≡ other_in self.now rank req }
+    {
+        self.others.get(&Request { rank, req }).copied()
     }
 
     /// The place that started the rank's request, if it is active.
@@ -195,10 +241,11 @@ impl Active {
         if self.others.is_empty() {
             return None;
         }
-        self.others.get(&Request { rank, req }).copied()
+        self.other_start_of(rank, req)
     }
 
     /// What `starts_of` does, by a look-up of each.
+    #[inline(always)]
     fn each_start_of(&self, rank: u16, reqs: &[u32], into: &mut [u32]) -> usize
         requires { length reqs.now ≤ length into.old }
         ensures most { result ≤ length reqs.now }

@@ -6,6 +6,7 @@
 ghost use Rattle.std.specs.Prelude.{◌≡◌, Some, true};
 ghost use Rattle.std.specs.Option.{option_map_or};
 ghost use Rattle.pairing.specs.Codes.{code_of_call, words_of_call};
+ghost use Rattle.pairing.specs.inner.Ascending.{ascend_from};
 ghost use Rattle.pairing.specs.Faults.{is_group_rank, is_peer, is_member, comm_exists, peers_exist, are_distinct, AnEndedLawfulListIsClosed, EachWaitHasItsStarts, NoTwoStartsAreActive};
 
 use callstore::next_call::NextCall;
@@ -159,12 +160,34 @@ pub(crate) fn peers_exist(head: &Head, call: &NextCall<'_>) -> bool
     }
 }
 
-/// Whether no number is in the list twice.
+/// Whether each number is above the one before it, and the first above the least.
+fn ascend_from(least: u32, numbers: &[u32]) -> bool
+    ensures { result ≡ ascend_from least numbers.now }
+{
+    match numbers.split_first() {
+        Some((number, others)) => least < *number && ascend_from(*number, others),
+        None => true,
+    }
+}
+
+/// Whether no number is in the list twice, by a look at each two of them.
+fn each_differs(numbers: &[u32]) -> bool
+    ensures { result ≡ are_distinct numbers.now }
+{
+    match numbers.split_first() {
+        Some((number, others)) => !is_among(*number, others) && each_differs(others),
+        None => true,
+    }
+}
+
+/// Whether no number is in the list twice. Most waits name their requests in the order of their numbers.
+#[inline(always)]
+#[tactic(auto, using(crate::proofs::AscendingLemmas::ascending))]
 pub(crate) fn are_distinct(numbers: &[u32]) -> bool
     ensures { result ≡ are_distinct numbers.now }
 {
     match numbers.split_first() {
-        Some((number, others)) => !is_among(*number, others) && are_distinct(others),
+        Some((number, others)) => ascend_from(*number, others) || each_differs(numbers),
         None => true,
     }
 }

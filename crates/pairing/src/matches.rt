@@ -131,6 +131,16 @@ impl Matches {
         Ok(number)
     }
 
+    /// The number of an envelope, which has one from then on, by a look-up.
+    #[inline(never)]
+    fn number_afresh(&mut self, envelope: Envelope) -> Result<usize, AllocError>
+        ensures grown { IsGrown self.old self.new }
+        ensures number { IfOk result (λ number. number_in self.new.keys envelope ≡ Some number) }
+    {
+        self.add_lists()?;
+        self.insert(envelope)
+    }
+
     /// The number of an envelope, which has one from then on.
     #[inline(always)]
     fn number(&mut self, envelope: Envelope) -> Result<usize, AllocError>
@@ -139,10 +149,7 @@ impl Matches {
     {
         match self.envelope_index.known(&envelope) {
             Some(number) => Ok(number),
-            None => {
-                self.add_lists()?;
-                self.insert(envelope)
-            }
+            None => self.number_afresh(envelope),
         }
     }
 

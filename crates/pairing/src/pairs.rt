@@ -3,17 +3,16 @@
 //! A call is admitted in steps: its fault is found, then each growth that it takes is made, and only then
 //! it is noted, by functions that get no allocator. So running out of memory leaves everything as it was.
 
-ghost use Rattle.std.specs.Prelude.{◌≡◌, ◌≢◌, ◌<◌, ◌≤◌, ℕ, [], length, replicate, slice_get, option_map, None, Err, IfOk, IfErr, IfSome, OnOk, OnErr, false, true};
+ghost use Rattle.std.specs.Prelude.{◌≡◌, ◌<◌, ◌≤◌, ℕ, [], length, replicate, slice_get, option_map, None, Err, IfOk, IfErr, IfSome, OnOk, OnErr, false, true};
 ghost use Rattle.mpigroup.specs.Groups.{ranks_of};
 ghost use Rattle.callstore.specs.Limits.{most_calls};
 ghost use Rattle.callstore.specs.Recordings.{calls_of, is_ended};
 ghost use Rattle.pairing.specs.Partners.{partner_of, EachIsReceived, HasUnreceived};
 ghost use Rattle.pairing.specs.Probed.{probed_of, HasProbe, NoneIsProbed};
-ghost use Rattle.callstore.specs.Hot.{hot_kind};
 ghost use Rattle.pairing.specs.inner.Seated.{IsProbing};
 ghost use Rattle.pairing.specs.Seen.{call_seen, IsSeen};
 ghost use Rattle.callstore.specs.Communicators.{NoneIsMade, HasMade};
-ghost use Rattle.callstore.specs.Requests.{started_in, started_of, HasActive};
+ghost use Rattle.callstore.specs.Requests.{started_in, started_of, waits_for, HasActive};
 ghost use Rattle.callstore.specs.Waves.{wave_of, member_of};
 ghost use Rattle.pairing.specs.Faults.{fault_of, IsLawful};
 ghost use Rattle.pairing.specs.Pairs.{with_call, added_at, TellsFault, completed_of};
@@ -30,9 +29,11 @@ use crate::tables::Tables;
 use callstore::by_kind;
 use callstore::call_ref::CallRef;
 use callstore::envelope::Half;
-use callstore::hot::{ANY, hot_kind};
+use callstore::hot::{ANY, WAITALL, hot_kind};
 use callstore::next_call::NextCall;
 use callstore::notes::Notes;
+use mpicall::call::Peer;
+use mpicall::effect::{Effect, Side};
 use mpicall::limits::MOST_REQUESTS;
 use mpicall::record::Record;
 use mpigroup::head::Head;
@@ -70,6 +71,33 @@ impl Model for Pairs {
     ghost invariant = { λ p. IsKept p.kept.head p.kept.notes.lists p.kept.tables × IsProbing p.kept.head (recording_of p.kept.notes.lists) p.probing };
 }
 
+/// Whether a call that sends, receives or probes says nothing of that, or names a rank.
+#[inline(always)]
+fn is_to_rank(side: Option<Side>) -> bool {
+    !matches!(
+        side,
+        Some(Side {
+            peer: Peer::Null,
+            ..
+        })
+    )
+}
+
+/// Whether the call names no communicator other than the world, and no MPI_PROC_NULL.
+#[inline(always)]
+fn is_common(call: &NextCall<'_>) -> bool {
+    match *call.effect() {
+        Effect::PointToPoint {
+            comm,
+            sent,
+            received,
+            ..
+        } => comm == 0 && is_to_rank(sent) && is_to_rank(received),
+        Effect::Joins { comm, .. } => comm == 0,
+        Effect::Local => true,
+    }
+}
+
 impl Pairs {
     /// No calls yet, for the ranks of the head.
     pub fn new(alloc: Global, head: Head) -> Result<Pairs, AllocError>
@@ -89,29 +117,26 @@ impl Pairs {
         })
     }
 
-    /// Adds the next call of a rank by the rules of `admit`. There is one such function for each kind of call that
-    /// comes often, built for it alone: the compiler knows there what such a call does.
-    fn admit_kind<const KIND: u8>(
+    /// Adds the next call of a rank by the rules of `admit`, which waits for so many requests at most. It is fastest for
+    /// a call of the kind.
+    #[inline(always)]
+    fn admit_next<const KIND: u8, const REQUESTS: usize>(
         &mut self,
-        rank: u16,
-        place: u32,
-        call: &Record,
+        at: (u16, u32),
+        call: &NextCall<'_>,
     ) -> Result<(), PairFault>
-        requires kind { KIND ≢ 0 → hot_kind call.now ≡ KIND }
-        requires is_rank { rank < length self.old.recording }
-        requires is_next { place ≡ length (calls_of self.old.recording rank) }
-        ensures ok { OnOk result (self.new ≡ with_call self.old rank call.now) }
-        ensures refused { IfSome (fault_of self.old.groups rank (calls_of self.old.recording rank) call.now) (λ fault. result ≡ Err (Refused fault)) }
-        ensures fault { IfErr result (TellsFault (fault_of self.old.groups rank (calls_of self.old.recording rank) call.now)) }
+        requires few { length (waits_for call.now) ≤ REQUESTS }
+        requires is_rank { at.0 < length self.old.recording }
+        requires is_next { at.1 ≡ length (calls_of self.old.recording at.0) }
+        ensures ok { OnOk result (self.new ≡ with_call self.old at.0 call.now) }
+        ensures refused { IfSome (fault_of self.old.groups at.0 (calls_of self.old.recording at.0) call.now) (λ fault. result ≡ Err (Refused fault)) }
+        ensures fault { IfErr result (TellsFault (fault_of self.old.groups at.0 (calls_of self.old.recording at.0) call.now)) }
         ensures err { OnErr result (self.new ≡ self.old) }
     {
         // For the proof: the ranks are few, so the calls are, and each probe's seat has a number of 32 bits.
         let _ranks = self.kept.head.ranks();
-        if KIND != ANY && hot_kind(call.as_call()) != KIND {
-            unreachable!();
-        }
-        let call = &NextCall::of(call);
-        let mut starts = [0; MOST_REQUESTS];
+        let rank = at.0;
+        let mut starts = [0; REQUESTS];
         let active = &self.kept.tables.active;
         let count = active.starts_of(rank, call.waits_for(), &mut starts);
         let are_active = count == call.waits_for().len();
@@ -121,14 +146,61 @@ impl Pairs {
         if self.probing.reserve(call).is_err() {
             return Err(PairFault::Memory);
         }
-        let at = (rank, place);
         match self.kept.reserve(rank, call) {
             Ok(room) => {
-                self.kept.put(at, call, &starts[..count], &room);
+                self.kept.put::<KIND>(at, call, &starts[..count], &room);
                 self.probing.put(&self.kept.head, at, call, &room.halves);
                 Ok(())
             }
             Err(_) => Err(PairFault::Memory),
+        }
+    }
+
+    /// Adds any call of a rank by the rules of `admit`: the slow way, for calls that come seldom.
+    #[inline(never)]
+    fn admit_any(&mut self, rank: u16, place: u32, call: &Record) -> Result<(), PairFault>
+        requires is_rank { rank < length self.old.recording }
+        requires is_next { place ≡ length (calls_of self.old.recording rank) }
+        ensures ok { OnOk result (self.new ≡ with_call self.old rank call.now) }
+        ensures refused { IfSome (fault_of self.old.groups rank (calls_of self.old.recording rank) call.now) (λ fault. result ≡ Err (Refused fault)) }
+        ensures fault { IfErr result (TellsFault (fault_of self.old.groups rank (calls_of self.old.recording rank) call.now)) }
+        ensures err { OnErr result (self.new ≡ self.old) }
+    {
+        let call = &NextCall::of(call);
+        // For the proof: a call waits for no more requests than that.
+        let _reqs = call.waits_for();
+        self.admit_next::<ANY, MOST_REQUESTS>((rank, place), call)
+    }
+
+    /// Adds the next call of a rank by the rules of `admit`. There is one such function for each kind of call that
+    /// comes often, built for it alone: the compiler knows there what such a call does, that its communicator is the
+    /// world and that its peer is a rank. What is otherwise goes the slow way.
+    #[inline(never)]
+    fn admit_kind<const KIND: u8>(
+        &mut self,
+        rank: u16,
+        place: u32,
+        call: &Record,
+    ) -> Result<(), PairFault>
+        requires is_rank { rank < length self.old.recording }
+        requires is_next { place ≡ length (calls_of self.old.recording rank) }
+        ensures ok { OnOk result (self.new ≡ with_call self.old rank call.now) }
+        ensures refused { IfSome (fault_of self.old.groups rank (calls_of self.old.recording rank) call.now) (λ fault. result ≡ Err (Refused fault)) }
+        ensures fault { IfErr result (TellsFault (fault_of self.old.groups rank (calls_of self.old.recording rank) call.now)) }
+        ensures err { OnErr result (self.new ≡ self.old) }
+    {
+        if hot_kind(call.as_call()) != KIND {
+            return self.admit_any(rank, place, call);
+        }
+        let next = &NextCall::of(call);
+        if !is_common(next) {
+            return self.admit_any(rank, place, call);
+        }
+        let reqs = next.waits_for();
+        if KIND == WAITALL || reqs.len() > 1 {
+            self.admit_next::<KIND, MOST_REQUESTS>((rank, place), next)
+        } else {
+            self.admit_next::<KIND, 1>((rank, place), next)
         }
     }
 
@@ -145,7 +217,7 @@ impl Pairs {
         by_kind!(
             hot_kind(call.as_call()),
             self.admit_kind(rank, place, call),
-            _ => self.admit_kind::<ANY>(rank, place, call)
+            _ => self.admit_any(rank, place, call)
         )
     }
 

@@ -104,6 +104,7 @@ impl Probes {
     }
 
     /// The envelope's next receive is at the place: it fills the seat of the probes since the last one.
+    #[inline(never)]
     fn follow(&mut self, envelope: Envelope, place: u32)
         ensures { Follows self.old self.new envelope place }
     {

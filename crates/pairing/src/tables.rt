@@ -72,10 +72,10 @@ impl Tables {
         ensures kept { (recording : Lists) → AreTables head.now recording self.old → AreTables head.now recording self.new }
         ensures ok { IfOk result (λ room. HaveRoom head.now rank call.now room self.new) }
     {
+        self.active.reserve(rank, call)?;
         let halves = self.matches.reserve(head, rank, call)?;
         let list = self.waves.reserve(rank, call)?;
         self.made_comms.reserve(call)?;
-        self.active.reserve(call)?;
         Ok(Room { halves, list })
     }
 
@@ -86,7 +86,7 @@ impl Tables {
         requires is_list { IsListFor rank call.now self.old.waves list }
         requires joined { IfSome list (HasRoomIn self.old.waves.lists) }
         requires made_comms { HasRoomToHold self.old.made_comms call.now }
-        requires active { HasRoomToStart self.old.active call.now }
+        requires active { HasRoomToStart self.old.active rank call.now }
         ensures matches { self.new.matches ≡ self.old.matches }
         ensures others { (recording : Lists) → AreOthers recording self.old → rank < length recording →
             place ≡ length (calls_of recording rank) → AreOthers (appended recording rank call.now) self.new }

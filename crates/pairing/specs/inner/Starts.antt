@@ -1,6 +1,6 @@
 -- The table of the active requests with the places that started them.
 use Rattle.std.specs.Option.{option_or}
-use Rattle.std.specs.Prelude.{◌≡◌, ◌<◌, ◌+◌, ◌*◌, ◌%◌, ◌==◌, if◌then◌else◌, ℕ, Bool, Option, None, Some, IsSome, is_some, slice_index_or}
+use Rattle.std.specs.Prelude.{◌≡◌, ◌<◌, ◌+◌, ◌*◌, ◌%◌, ◌==◌, ◌&&◌, nat_lt, if◌then◌else◌, ℕ, Bool, true, false, Option, None, Some, is_some, length, slice_index_or}
 use Rattle.mpicall.specs.declared.call.Call.{Call}
 use Rattle.indexmap.specs.IndexMap.{get, spare}
 use Rattle.callstore.specs.Recordings.{Lists, calls_of}
@@ -28,10 +28,13 @@ abbrev pub place_at : ℕ → Option ActiveRequest → Option ℕ
 place_at req None = None
 place_at req (Some start) = if start.req == req then Some start.place else None
 
+-- the place of the rank's request, where it found another one in its cell
+abbrev pub other_in : Active → ℕ → ℕ → Option ℕ
+other_in active rank req = get is_same_request active.others (record { rank = rank; req = req })
+
 -- the place that the table has for the rank's request
 abbrev pub place_in : Active → ℕ → ℕ → Option ℕ
-place_in active rank req =
-    option_or (place_at req (cell_in active rank req)) (get is_same_request active.others (record { rank = rank; req = req }))
+place_in active rank req = option_or (place_at req (cell_in active rank req)) (other_in active rank req)
 
 -- the table has the rank's request
 abbrev pub has_place : Active → ℕ → ℕ → Bool
@@ -42,6 +45,15 @@ abbrev pub IsActive : Lists → Active → Type 0
 IsActive recording active =
     (rank req : ℕ) → place_in active rank req ≡ started_in (calls_of recording rank) req
 
+-- nothing else is in the cell of the request
+abbrev pub is_free : ℕ → Option ActiveRequest → Bool
+is_free req None = true
+is_free req (Some start) = start.req == req
+
+-- there is a cell for the rank's request
+abbrev pub has_cell : Active → ℕ → ℕ → Bool
+has_cell active rank req = nat_lt (cell_no rank req) (length active.cells.items) && is_free req (cell_in active rank req)
+
 -- what the call starts can be put into the table without memory
-abbrev pub HasRoomToStart : Active → Call → Type 0
-HasRoomToStart active call = IsSome (starts call) → 0 < spare active.others
+abbrev pub HasRoomToStart : Active → ℕ → Call → Type 0
+HasRoomToStart active rank call = (req : ℕ) → starts call ≡ Some req → has_cell active rank req ≡ false → 0 < spare active.others

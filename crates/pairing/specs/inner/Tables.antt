@@ -35,7 +35,7 @@ pub record HaveRoom (groups : Groups) (rank : ℕ) (call : Call) (room : Room) (
   pub matched : HasRoomFor groups rank call room.halves tables.matches
   pub joined : HasRoomToJoin rank call room.list tables.waves
   pub made_comms : HasRoomToHold tables.made_comms call
-  pub active : HasRoomToStart tables.active call
+  pub active : HasRoomToStart tables.active rank call
 
 -- with the rank's call is kept the number of its wave, and no partner yet
 pub record IsCached (before : List Call) (call : Call) (cached : CachedMatch) : Type 0 where

@@ -12,14 +12,14 @@ use Rattle.callstore.proofs.StartLemmas.{are_starts}
 use Rattle.pairing.proofs.kept.note_call.Goals as goal
 
 pub note-requires-clause-starts : goal.note-requires-clause-starts
-note-requires-clause-starts c =
+note-requires-clause-starts g c =
     let notes = c.args.notes.now.lists in
     rw c.record.ensures
     (subst (λ (before : List Call). AreStarts before c.args.call.now c.args.starts.now) (calls_of-recorded notes c.args.rank)
     (are_starts (calls_of (recording_of notes) c.args.rank) c.args.starts.now (waits_for c.args.call.now) c.requires.starts))
 
 pub returns : goal.returns
-returns c =
+returns g c =
     let recorded = calls_of-recorded c.args.notes.now.lists c.args.rank in
     record {
       noted = record { call = c.args.call.now; cached = c.args.cached; starts = c.args.starts.now };

@@ -7,7 +7,7 @@ use Rattle.callstore.proofs.NoteLemmas.{with_note_set}
 use Rattle.callstore.proofs.notes.Notes.note.Goals as goal
 
 pub returns : goal.returns
-returns c =
+returns g c =
     let ranks : length c.args.self.now.lists ≡ length c.self.inside.lists.items =
     ap (λ (notes : Notebook). length notes.lists) (sym c.self.view_is) ∙ length-map c.self.inside.lists.items (λ (list : NotedList). list.calls) in
     let is_rank : c.args.rank < length c.self.inside.lists.items = omega (arith, c.requires.is_rank) in

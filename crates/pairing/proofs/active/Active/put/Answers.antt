@@ -1,6 +1,6 @@
 use Rattle.std.proofs.Common.{◌≡◌}
 use Rattle.callstore.specs.Requests.{completes}
-use Rattle.pairing.proofs.ActiveLemmas.{active_more}
+use Rattle.pairing.proofs.ActiveLemmas.{active_more, room_still}
 use Rattle.pairing.proofs.active.Active.put.Goals as goal
 
 pub returns : goal.returns
@@ -10,3 +10,6 @@ returns c recording is_active is_rank is_next =
     (λ r req. rw completed at (c.complete.ensures.taken r req))
     (λ r req. rw is_next at (c.start.ensures r req))
     is_rank is_active
+
+pub start-requires : goal.start-requires
+start-requires c = room_still c.args.self.now c.complete.new.self c.args.rank c.args.call.now c.complete.ensures.free c.complete.ensures.room c.requires

@@ -11,7 +11,7 @@ use Rattle.pairing.proofs.KeptLemmas.{count_noted, ranks_noted, goes_on_as, kept
 use Rattle.pairing.proofs.kept.Kept.put.Goals as goal
 
 pub note_call-requires-clause-few : goal.note_call-requires-clause-few
-note_call-requires-clause-few c =
+note_call-requires-clause-few g c =
     omega (
       arith,
       count_noted c.args.self.now.notes.lists c.args.at.0,
@@ -19,18 +19,18 @@ note_call-requires-clause-few c =
     )
 
 pub note_call-requires-clause-cached : goal.note_call-requires-clause-cached
-note_call-requires-clause-cached c =
+note_call-requires-clause-cached g c =
     let notes = c.args.self.now.notes.lists in
     let has_room = (fault_none c.args.self.now.head c.args.at.0 (calls_of (recording_of notes) c.args.at.0) c.args.call.now c.requires.lawful).has_room in
     c.cached-cached.ensures c.args.self.now.head (recording_of notes) c.args.at.0 c.args.call.now c.requires.kept.tables c.requires.room.joined.is_list (omega (arith, has_room))
 
 pub returns-clause-recording : goal.returns-clause-recording
-returns-clause-recording c =
+returns-clause-recording g c =
     c.meet_halves.ensures.recording
     ∙ goes_on_as c.args.self.now.notes.lists c.note_call.new.notes.lists c.args.at.0 c.args.call.now c.note_call.ensures
 
 pub returns-clause-kept : goal.returns-clause-kept
-returns-clause-kept c =
+returns-clause-kept g c =
     let groups = c.args.self.now.head in
     let old = c.args.self.now.notes.lists in
     let recording = recording_of old in

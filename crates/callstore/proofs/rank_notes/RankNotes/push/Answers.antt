@@ -8,7 +8,7 @@ use Rattle.callstore.specs.inner.Notes.{NotedList}
 use Rattle.callstore.specs.Packed.{noted}
 use Rattle.callstore.specs.inner.Packed.{noted_of, listed_starts}
 use Rattle.callstore.proofs.PackedLemmas.{listed_few, notes_push, stored_push, names_more, few_listed, as_many_starts, packed_stored, packed_noted}
-use Rattle.callstore.proofs.rank_notes.RankNotes.note.Goals as goal
+use Rattle.callstore.proofs.rank_notes.RankNotes.push.Goals as goal
 
 pub invariant_of-self : goal.invariant_of-self
 invariant_of-self c =

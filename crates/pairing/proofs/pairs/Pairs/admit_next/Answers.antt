@@ -14,7 +14,7 @@ use Rattle.pairing.specs.inner.Tables.{IsKept}
 use Rattle.pairing.proofs.CallCountLemmas.{few_seats}
 use Rattle.pairing.proofs.FaultLemmas.{fault_none}
 use Rattle.pairing.proofs.KeptLemmas.{kept_still, ranks_noted}
-use Rattle.pairing.proofs.pairs.Pairs.admit_kind.Goals as goal
+use Rattle.pairing.proofs.pairs.Pairs.admit_next.Goals as goal
 
 pub invariant_of-self-in-Err : goal.invariant_of-self-in-Err
 invariant_of-self-in-Err g c =
@@ -34,16 +34,16 @@ put-requires-clause-kept g c =
 pub put-requires-clause-starts : goal.put-requires-clause-starts
 put-requires-clause-starts g c =
     let notes = c.self.inside.kept.notes.lists in
-    let calls = calls_of (recording_of notes) c.args.rank in
+    let calls = calls_of (recording_of notes) c.args.at.0 in
     let active = c.self.invariant.0.tables.others.active in
-    let faultless = fault_none c.self.inside.kept.head c.args.rank calls c.of.result (sym c.next_fault.ensures ∙ c.in_default.is) in
-    let reqs : c.waits_for.result.now ≡ waits_for c.of.result = c.waits_for.ensures.value in
+    let faultless = fault_none c.self.inside.kept.head c.args.at.0 calls c.args.call.now (sym c.next_fault.ensures ∙ c.in_default.is) in
+    let reqs : c.waits_for.result.now ≡ waits_for c.args.call.now = c.waits_for.ensures.value in
     let all : (c.starts_of-count.result == length c.waits_for.result.now) ≡ true =
     sym (c.starts_of-count.ensures.all (recording_of notes) active) ∙ ap (λ (named : List ℕ). list_all (is_active calls) named) reqs ∙ faultless.active in
     let count : c.starts_of-count.result ≡ length c.waits_for.result.now = eqb-true c.starts_of-count.result (length c.waits_for.result.now) all in
     c.starts_of-count.ensures.written (recording_of notes) active
     ∙ ap (λ (named : List ℕ). map (started_in calls) named) (take_all c.starts_of-count.result c.waits_for.result.now (omega (arith, count)) ∙ reqs)
-    ∙ ap (λ (lists : List (List Noted)). map (started_in (calls_of (recording_of lists) c.args.rank)) (waits_for c.of.result)) (sym c.reserve-2.ensures.notes)
+    ∙ ap (λ (lists : List (List Noted)). map (started_in (calls_of (recording_of lists) c.args.at.0)) (waits_for c.args.call.now)) (sym c.reserve-2.ensures.notes)
 
 pub invariant_of-self : goal.invariant_of-self
 invariant_of-self g c = (

@@ -1,5 +1,0 @@
-use Rattle.std.proofs.Common.{length}
-use Rattle.pairing.proofs.fault.+are_distinct.Given as goal
-
-abbrev pub decreases-are_distinct : goal.decreases-are_distinct
-decreases-are_distinct l = length l.numbers.now
