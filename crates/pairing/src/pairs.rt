@@ -126,6 +126,7 @@ impl Pairs {
         call: &NextCall<'_>,
     ) -> Result<(), PairFault>
         requires few { length (waits_for call.now) ≤ REQUESTS }
+        requires most { REQUESTS ≤ MOST_REQUESTS }
         requires is_rank { at.0 < length self.old.recording }
         requires is_next { at.1 ≡ length (calls_of self.old.recording at.0) }
         ensures ok { OnOk result (self.new ≡ with_call self.old at.0 call.now) }
