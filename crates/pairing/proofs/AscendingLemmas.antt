@@ -1,7 +1,6 @@
 -- Numbers that ascend are distinct.
 use Rattle.std.proofs.Common.{◌≡◌, ℕ, ◌<◌, ◌≤◌, true, false, ltb, List, [], ◌∷◌, refl, arith}
 use Rattle.std.proofs.lemmas.Bool.{ltb-true, and_parts, and_from, or_from, not_from_false, ne_eqb}
-use Rattle.std.specs.Prelude.{not}
 use Rattle.callstore.specs.Requests.{is_among}
 use Rattle.pairing.specs.Faults.{are_distinct}
 use Rattle.pairing.specs.inner.Ascending.{ascend_from}
