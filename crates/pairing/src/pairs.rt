@@ -118,9 +118,9 @@ impl Pairs {
     }
 
     /// Adds the next call of a rank by the rules of `admit`, which waits for so many requests at most. It is fastest for
-    /// a call of the kind.
+    /// a call of the kind. `IS_COMMON` only tells uses apart: the compiler inlines what is used once, whatever its size.
     #[inline(always)]
-    fn admit_next<const KIND: u8, const REQUESTS: usize>(
+    fn admit_next<const KIND: u8, const REQUESTS: usize, const IS_COMMON: bool>(
         &mut self,
         at: (u16, u32),
         call: &NextCall<'_>,
@@ -170,12 +170,36 @@ impl Pairs {
         let call = &NextCall::of(call);
         // For the proof: a call waits for no more requests than that.
         let _reqs = call.waits_for();
-        self.admit_next::<ANY, MOST_REQUESTS>((rank, place), call)
+        self.admit_next::<ANY, MOST_REQUESTS, false>((rank, place), call)
+    }
+
+    /// What `admit_kind` does, where a call of the kind is over another communicator, or its peer is MPI_PROC_NULL.
+    #[inline(never)]
+    fn admit_elsewhere<const KIND: u8>(
+        &mut self,
+        rank: u16,
+        place: u32,
+        call: &Record,
+    ) -> Result<(), PairFault>
+        requires is_rank { rank < length self.old.recording }
+        requires is_next { place ≡ length (calls_of self.old.recording rank) }
+        ensures ok { OnOk result (self.new ≡ with_call self.old rank call.now) }
+        ensures refused { IfSome (fault_of self.old.groups rank (calls_of self.old.recording rank) call.now) (λ fault. result ≡ Err (Refused fault)) }
+        ensures fault { IfErr result (TellsFault (fault_of self.old.groups rank (calls_of self.old.recording rank) call.now)) }
+        ensures err { OnErr result (self.new ≡ self.old) }
+    {
+        if hot_kind(call.as_call()) != KIND {
+            return self.admit_any(rank, place, call);
+        }
+        let call = &NextCall::of(call);
+        // For the proof: a call waits for no more requests than that.
+        let _reqs = call.waits_for();
+        self.admit_next::<KIND, MOST_REQUESTS, false>((rank, place), call)
     }
 
     /// Adds the next call of a rank by the rules of `admit`. There is one such function for each kind of call that
     /// comes often, built for it alone: the compiler knows there what such a call does, that its communicator is the
-    /// world and that its peer is a rank. What is otherwise goes the slow way.
+    /// world and that its peer is a rank. Another call of the kind has a function too, which knows only the kind.
     #[inline(never)]
     fn admit_kind<const KIND: u8>(
         &mut self,
@@ -195,13 +219,13 @@ impl Pairs {
         }
         let next = &NextCall::of(call);
         if !is_common(next) {
-            return self.admit_any(rank, place, call);
+            return self.admit_elsewhere::<KIND>(rank, place, call);
         }
         let reqs = next.waits_for();
         if KIND == WAITALL || reqs.len() > 1 {
-            self.admit_next::<KIND, MOST_REQUESTS>((rank, place), next)
+            self.admit_next::<KIND, MOST_REQUESTS, true>((rank, place), next)
         } else {
-            self.admit_next::<KIND, 1>((rank, place), next)
+            self.admit_next::<KIND, 1, true>((rank, place), next)
         }
     }
 
