@@ -1,3 +1,4 @@
+pub mod EntryLemmas
 pub mod OptionLemmas
 pub mod PlaceLemmas
 pub mod PlacesLemmas

@@ -20,7 +20,7 @@ use Rattle.callstore.specs.declared.packed.Packed.{Packed}
 use Rattle.callstore.specs.declared.packed.Packed.TheVariants.{Send, Recv, Wait, Waitall, Waitany, Nothing, Message, Exchange, Copy, Split}
 use Rattle.mpicall.specs.declared.call.Peer.TheVariants.{Rank, Null}
 use Rattle.callstore.specs.Hot.{hot_kind}
-use Rattle.callstore.specs.declared.packed.Entry.{Entry}
+use Rattle.callstore.specs.inner.Entries.{Entry}
 use Rattle.std.specs.Option.{option_map, option_map_or}
 use Rattle.std.specs.List.{slice_get}
 use Rattle.std.proofs.lemmas.Option.{same_Some, slice_get-map, slice_get_within, get_or_from_slice_get}

@@ -9,7 +9,7 @@ use Rattle.std.proofs.lemmas.Bool.{cases_lt, lt-ltb, le-ltb}
 use Rattle.callstore.specs.declared.packed.Packed.{Packed}
 use Rattle.callstore.specs.declared.packed.Packed.TheVariants.{Wait, Waitany, Nothing, Message, Exchange, Copy, Split}
 use Rattle.mpicall.specs.declared.call_args.CallArgs.TheVariants as call_args
-use Rattle.callstore.specs.declared.packed.Entry.{Entry}
+use Rattle.callstore.specs.inner.Entries.{Entry}
 use Rattle.callstore.specs.Requests.{starts, waits_for, completes, started_in}
 use Rattle.callstore.specs.Notes.{Noted, request_among, completed_among, completed_starts, start_of}
 use Rattle.callstore.specs.inner.Packed.{req_at, reqs_at, part, unpack, unpack_starts, noted_of}

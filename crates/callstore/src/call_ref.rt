@@ -8,12 +8,14 @@ ghost use Rattle.callstore.specs.Requests.{starts, completes};
 ghost use Rattle.callstore.specs.Waves.{joins};
 ghost use Rattle.callstore.specs.Kinds.{bytes_told, kind_of, mode_of};
 ghost use Rattle.callstore.specs.Hot.{hot_kind};
+ghost use Rattle.callstore.specs.inner.Entries.{entry_at};
 ghost use Rattle.callstore.specs.inner.Packed.{IsStored, unpack};
 
+use crate::entries::{Entries, EntryRef};
 use crate::envelope::{Half, Message, message_by, probed_by};
 use crate::hot::{ANY, COLL, IRECV, ISEND, RECV, SEND, WAIT, WAITALL};
 use crate::note::Note;
-use crate::packed::{Entry, Packed};
+use crate::packed::Packed;
 use crate::packing::unpack;
 use crate::wave::joined_by;
 use mpicall::call::{Kind, Mode, Peer};
@@ -25,28 +27,29 @@ use std::marker::Model;
 /// A call that is kept. Contracts see the call.
 #[derive(Drop)]
 pub struct CallRef<'a> {
-    entry: &'a Entry,
-    entries: &'a [Entry],
+    entry: EntryRef<'a>,
+    entries: &'a Entries,
     starts: &'a [u32],
 }
 
 impl<'a> Model for CallRef<'a> {
     ghost use Rattle.mpicall.specs.declared.call.Call.{Call};
+    ghost use Rattle.callstore.specs.inner.Entries.{entry_at};
     ghost use Rattle.callstore.specs.inner.Packed.{IsStored, unpack};
 
     ghost Value = { Call };
 
-    ghost view = { λ c. unpack c.entries.now c.starts.now c.entry.now.call };
+    ghost view = { λ c. unpack c.entries.now.items c.starts.now c.entry.slot.now.call };
 
-    ghost invariant = { λ c. IsStored c.entries.now c.starts.now c.entry.now };
+    ghost invariant = { λ c. IsStored c.entries.now.items c.starts.now (entry_at c.entry) };
 }
 
 impl<'a> CallRef<'a> {
     /// The call of an entry, with the lists of its rank.
     #[inline(always)]
-    pub(crate) fn of(entry: &'a Entry, entries: &'a [Entry], starts: &'a [u32]) -> CallRef<'a>
-        requires { IsStored entries.now starts.now entry.now }
-        ensures { result ≡ unpack entries.now starts.now entry.now.call }
+    pub(crate) fn of(entry: EntryRef<'a>, entries: &'a Entries, starts: &'a [u32]) -> CallRef<'a>
+        requires { IsStored entries.now.items starts.now (entry_at entry) }
+        ensures { result ≡ unpack entries.now.items starts.now entry.entry.slot.now.call }
     {
         CallRef {
             entry,
@@ -59,7 +62,7 @@ impl<'a> CallRef<'a> {
     pub fn record(&self) -> Record
         ensures { result ≡ self.now }
     {
-        Record::new(unpack(&self.entry.call, self.entries, self.starts)).unwrap()
+        Record::new(unpack(&self.entry.slot.call, self.entries, self.starts)).unwrap()
     }
 
     /// What the call does over its communicator.
@@ -67,7 +70,7 @@ impl<'a> CallRef<'a> {
     pub fn effect(&self) -> Effect
         ensures { result ≡ effect_of self.now }
     {
-        self.entry.call.effect()
+        self.entry.slot.call.effect()
     }
 
     /// The message that a half of the call sends or receives. None where the call has no such half, and
@@ -93,7 +96,7 @@ impl<'a> CallRef<'a> {
     pub fn mode(&self) -> Option<Mode>
         ensures { result ≡ mode_of self.now }
     {
-        match self.entry.call {
+        match self.entry.slot.call {
             Packed::Send { mode, .. } | Packed::Isend { mode, .. } => Some(mode),
             _ => None,
         }
@@ -105,7 +108,7 @@ impl<'a> CallRef<'a> {
     pub fn bytes(&self) -> Option<u32>
         ensures { result ≡ bytes_told self.now }
     {
-        match self.entry.call {
+        match self.entry.slot.call {
             Packed::Send { bytes, .. }
             | Packed::Isend { bytes, .. }
             | Packed::Exchange {
@@ -122,7 +125,7 @@ impl<'a> CallRef<'a> {
     pub fn kind(&self) -> Option<Kind>
         ensures { result ≡ kind_of self.now }
     {
-        match self.entry.call {
+        match self.entry.slot.call {
             Packed::Coll { kind, .. } => Some(kind),
             _ => None,
         }
@@ -134,7 +137,7 @@ impl<'a> CallRef<'a> {
     pub fn hot_kind(&self) -> u8
         ensures { result ≡ hot_kind self.now }
     {
-        match self.entry.call {
+        match self.entry.slot.call {
             Packed::Send { .. } => SEND,
             Packed::Recv { source, .. } => match source.peer() {
                 Peer::Rank(_) => RECV,
@@ -154,7 +157,7 @@ impl<'a> CallRef<'a> {
     pub fn starts(&self) -> Option<u32>
         ensures { result ≡ starts self.now }
     {
-        self.entry.call.starts()
+        self.entry.slot.call.starts()
     }
 
     /// The communicator whose members all make the call, if there is one.
@@ -162,7 +165,7 @@ impl<'a> CallRef<'a> {
     pub fn joins(&self) -> Option<u16>
         ensures { result ≡ joins self.now }
     {
-        match self.entry.call {
+        match self.entry.slot.call {
             Packed::Coll { comm, .. } | Packed::Icoll { comm, .. } => Some(comm),
             _ => joined_by(&self.effect()),
         }
@@ -182,7 +185,7 @@ impl<'a> CallRef<'a> {
         ensures { result ≡ ends_list self.now }
     {
         matches!(
-            self.entry.call,
+            self.entry.slot.call,
             Packed::Nothing {
                 name: Name::Finalize | Name::Open
             }

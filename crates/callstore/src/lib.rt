@@ -20,8 +20,8 @@
 //! above whose caller is a user of the library cites them. What only proofs and private contracts cite is in
 //! `specs/inner/`, and nobody has to believe it.
 //!
-//! A call takes 32 bytes with the partners of its halves or the number of its wave, and each request that a wait for
-//! several names 4 more. No look-up takes memory or goes through a list of calls: that is seen in the code alone.
+//! A call takes 24 bytes with the partner of its half or the number of its wave, and each request that a wait for
+//! several names 4 more. Once a call of a rank has two partners, each call of that rank up to it takes 8 more. No look-up takes memory or goes through a list of calls: that is seen in the code alone.
 //!
 //! ```text
 //! let mut notes = Notes::new(alloc, 2)?;
@@ -34,10 +34,12 @@
 pub mod cached_match;
 pub mod call_ref;
 pub mod comm;
+mod entries;
 pub mod envelope;
 mod growth;
 pub mod hot;
 pub mod limits;
+mod mark;
 pub mod next_call;
 pub mod note;
 pub mod notes;

@@ -4,18 +4,20 @@ ghost use Rattle.std.specs.Prelude.{◌≡◌, ◌==◌, length, slice_get, find
 ghost use Rattle.callstore.specs.CachedMatch.{partner_in, wave_in};
 ghost use Rattle.callstore.specs.Requests.{completes};
 ghost use Rattle.callstore.specs.Notes.{completed_starts, start_of};
+ghost use Rattle.callstore.specs.inner.Entries.{entry_at};
 ghost use Rattle.callstore.specs.inner.Packed.{IsStored, req_at, noted_of};
 
 use crate::call_ref::CallRef;
+use crate::entries::{Entries, EntryRef};
 use crate::envelope::Half;
-use crate::packed::{Entry, Packed};
+use crate::packed::Packed;
 use crate::packing::{req_at, unpack_starts};
 use std::marker::Model;
 use std::slice::from_ref;
 
 /// The first of the places whose call starts the request.
-fn first_start(req: u32, entries: &[Entry], places: &[u32]) -> Option<u32>
-    ensures { result ≡ find (λ place. req_at entries.now place == req) places.now }
+fn first_start(req: u32, entries: &Entries, places: &[u32]) -> Option<u32>
+    ensures { result ≡ find (λ place. req_at entries.now.items place == req) places.now }
 {
     let mut starts = places.iter().copied();
     starts.find(|place| req_at(entries, *place) == req)
@@ -24,28 +26,29 @@ fn first_start(req: u32, entries: &[Entry], places: &[u32]) -> Option<u32>
 /// A noted call. Contracts see the call with what is kept with it.
 #[derive(Drop)]
 pub struct Note<'a> {
-    entry: &'a Entry,
-    entries: &'a [Entry],
+    entry: EntryRef<'a>,
+    entries: &'a Entries,
     starts: &'a [u32],
 }
 
 impl<'a> Model for Note<'a> {
     ghost use Rattle.callstore.specs.Notes.{Noted};
+    ghost use Rattle.callstore.specs.inner.Entries.{entry_at};
     ghost use Rattle.callstore.specs.inner.Packed.{IsStored, noted_of};
 
     ghost Value = { Noted };
 
-    ghost view = { λ n. noted_of n.entries.now n.starts.now n.entry.now };
+    ghost view = { λ n. noted_of n.entries.now.items n.starts.now (entry_at n.entry) };
 
-    ghost invariant = { λ n. IsStored n.entries.now n.starts.now n.entry.now };
+    ghost invariant = { λ n. IsStored n.entries.now.items n.starts.now (entry_at n.entry) };
 }
 
 impl<'a> Note<'a> {
     /// The note of an entry, with the lists of its rank.
     #[inline(always)]
-    pub(crate) fn of(entry: &'a Entry, entries: &'a [Entry], starts: &'a [u32]) -> Note<'a>
-        requires { IsStored entries.now starts.now entry.now }
-        ensures { result ≡ noted_of entries.now starts.now entry.now }
+    pub(crate) fn of(entry: EntryRef<'a>, entries: &'a Entries, starts: &'a [u32]) -> Note<'a>
+        requires { IsStored entries.now.items starts.now (entry_at entry) }
+        ensures { result ≡ noted_of entries.now.items starts.now (entry_at entry.entry) }
     {
         Note {
             entry,
@@ -67,7 +70,7 @@ impl<'a> Note<'a> {
     pub fn partner(&self, half: Half) -> Option<u32>
         ensures { result ≡ partner_in half self.now.cached }
     {
-        self.entry.cached.partner(half)
+        self.entry.cached().partner(half)
     }
 
     /// How many collectives of its communicator its rank made before, where the call is one.
@@ -75,7 +78,7 @@ impl<'a> Note<'a> {
     pub fn joined(&self) -> u32
         ensures { result ≡ wave_in self.now.cached }
     {
-        self.entry.cached.wave()
+        self.entry.cached().wave()
     }
 
     /// The places that started the requests which the call names, in its order; none where it is no wait.
@@ -83,7 +86,7 @@ impl<'a> Note<'a> {
     fn starts(&self) -> &[u32]
         ensures { result.now ≡ self.now.starts }
     {
-        unpack_starts(&self.entry.call, self.starts)
+        unpack_starts(&self.entry.slot.call, self.starts)
     }
 
     /// The places that started the requests which the call completes.
@@ -93,7 +96,7 @@ impl<'a> Note<'a> {
         ensures count { length result.now ≡ length (completes self.now.call) }
     {
         let starts = self.starts();
-        match self.entry.call {
+        match self.entry.slot.call {
             Packed::Waitany { chosen, .. } => match starts.get(usize::from(chosen)) {
                 Some(start) => from_ref(start),
                 None => &[],

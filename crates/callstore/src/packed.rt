@@ -1,5 +1,4 @@
-//! Calls stored compactly: a call with what is kept with it takes 32 bytes, and each request that a wait for
-//! several names 4 more.
+//! Calls stored compactly: in 20 bytes, and each request that a wait for several names takes 4 more.
 //!
 //! A wait keeps the places of the calls that started its requests, and no numbers. The analyser asks for
 //! places at each step; numbers are needed for reports alone, at the price of one look-up each.
@@ -9,9 +8,8 @@ ghost use Rattle.mpicall.specs.declared.call.Call.TheVariants.{Finalize};
 ghost use Rattle.mpicall.specs.Effect.{effect_of};
 ghost use Rattle.callstore.specs.Requests.{starts};
 ghost use Rattle.callstore.specs.inner.Packed.{request_of, plain_of, unpack};
-ghost use Rattle.callstore.specs.declared.packed.Entry.{Entry};
+ghost use Rattle.callstore.specs.inner.Entries.{Entry};
 
-use crate::cached_match::CachedMatch;
 use crate::packed_fields::{PackedBytes, PackedPeer};
 use mpicall::call::{Call, Kind, Mode};
 use mpicall::call_args::CallArgs;
@@ -103,14 +101,7 @@ pub(crate) enum Packed {
     },
 }
 
-/// A call, and what is kept with it.
-#[derive(Clone, Copy)]
-pub(crate) struct Entry {
-    pub call: Packed,
-    pub cached: CachedMatch,
-}
-
-const _: () = prove!(size_of::<Entry>() <= 32);
+const _: () = prove!(size_of::<Packed>() <= 20);
 
 impl Packed {
     /// The call of a name and what follows it; None for an operation and a wait.

@@ -9,9 +9,10 @@ ghost use Rattle.mpicall.specs.Limits.{few_enough, names_enough, in_ranges};
 ghost use Rattle.callstore.specs.Requests.{waits_for};
 ghost use Rattle.callstore.specs.Notes.{listed};
 ghost use Rattle.callstore.specs.inner.Packed.{request_at, req_at, reqs_at, part, unpack, unpack_starts, end_of, listed_starts};
-ghost use Rattle.callstore.specs.declared.packed.Entry.{Entry};
+ghost use Rattle.callstore.specs.inner.Entries.{Entry};
 
-use crate::packed::{Entry, Packed};
+use crate::entries::Entries;
+use crate::packed::Packed;
 use crate::packed_fields::{PackedBytes, PackedPeer};
 use mpicall::call::Call;
 use mpicall::call_args::CallArgs;
@@ -200,23 +201,23 @@ fn part(places: &[u32], first: u32, count: u8) -> &[u32]
 }
 
 /// The request that the rank's call at the place starts.
-fn request_at(entries: &[Entry], place: u32) -> Option<u32>
-    ensures { result ≡ request_at entries.now place }
+fn request_at(entries: &Entries, place: u32) -> Option<u32>
+    ensures { result ≡ request_at entries.now.items place }
 {
-    entries.get(place as usize)?.call.starts()
+    entries.get(place as usize)?.slot.call.starts()
 }
 
 /// The request that the rank's call at the place starts; 0 where that call starts none.
-pub(crate) fn req_at(entries: &[Entry], place: u32) -> u32
-    ensures { result ≡ req_at entries.now place }
+pub(crate) fn req_at(entries: &Entries, place: u32) -> u32
+    ensures { result ≡ req_at entries.now.items place }
 {
     request_at(entries, place).unwrap_or(0)
 }
 
 /// The requests that the calls at the places start.
-fn reqs_at(entries: &[Entry], places: &[u32]) -> Reqs
-    requires { IsTrue (few_enough (reqs_at entries.now places.now)) }
-    ensures { result ≡ reqs_at entries.now places.now }
+fn reqs_at(entries: &Entries, places: &[u32]) -> Reqs
+    requires { IsTrue (few_enough (reqs_at entries.now.items places.now)) }
+    ensures { result ≡ reqs_at entries.now.items places.now }
 {
     let mut reqs = [0; MOST_REQUESTS];
     for i in 0..places.len() {
@@ -226,10 +227,10 @@ fn reqs_at(entries: &[Entry], places: &[u32]) -> Reqs
 }
 
 /// The call, by the entries of its rank and the starts of their waits.
-pub(crate) fn unpack(packed: &Packed, entries: &[Entry], starts: &[u32]) -> Call
+pub(crate) fn unpack(packed: &Packed, entries: &Entries, starts: &[u32]) -> Call
     requires within { end_of packed.now ≤ length starts.now }
-    requires few { IsTrue (names_enough (unpack entries.now starts.now packed.now)) }
-    ensures { result ≡ unpack entries.now starts.now packed.now }
+    requires few { IsTrue (names_enough (unpack entries.now.items starts.now packed.now)) }
+    ensures { result ≡ unpack entries.now.items starts.now packed.now }
 {
     match *packed {
         Packed::Send {

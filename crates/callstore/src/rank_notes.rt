@@ -7,18 +7,14 @@ ghost use Rattle.callstore.specs.Notes.{calls_in, partnered_in, AreStarts, Holds
 ghost use Rattle.callstore.specs.Packed.{noted};
 
 use crate::cached_match::CachedMatch;
+use crate::entries::Entries;
 use crate::envelope::Half;
-use crate::growth::make_room;
 use crate::hot::hot_kind;
 use crate::note::Note;
-use crate::packed::Entry;
 use crate::packing::{listed, listed_starts, pack};
 use mpicall::record::Record;
 use std::alloc::{AllocError, Global};
 use std::marker::Model;
-
-/// So many calls fill a block.
-const ENTRIES_A_BLOCK: usize = 4096;
 
 /// Puts the numbers after others, for which there is room.
 fn push_all(to: &mut Vec<u32>, numbers: &[u32])
@@ -33,7 +29,7 @@ fn push_all(to: &mut Vec<u32>, numbers: &[u32])
 /// The noted calls of a rank, in its order. Contracts see each call with what is kept with it, and for
 /// how many more there is room.
 pub(crate) struct RankNotes {
-    entries: Vec<Entry>,
+    entries: Entries,
     // The places that started the requests of waits for several.
     starts: Vec<u32>,
 }
@@ -58,7 +54,7 @@ impl Model for RankNotes {
     ghost view = { λ r. record {
       calls = map (noted_of r.entries.items r.starts.items) r.entries.items;
       room = record {
-        calls = vec_capacity r.entries - vec_len r.entries;
+        calls = r.entries.room;
         starts = vec_capacity r.starts - vec_len r.starts;
       };
     } };
@@ -72,7 +68,7 @@ impl RankNotes {
         ensures { result.calls ≡ [] }
     {
         RankNotes {
-            entries: Vec::new(alloc),
+            entries: Entries::new(alloc),
             starts: Vec::new(alloc),
         }
     }
@@ -92,7 +88,7 @@ impl RankNotes {
         ensures calls { self.new.calls ≡ self.old.calls }
         ensures ok { OnOk result (Holds self.new.room call.now) }
     {
-        make_room(&mut self.entries, ENTRIES_A_BLOCK)?;
+        self.entries.reserve()?;
         self.starts.reserve(listed(call.as_call()).len())?;
         Ok(())
     }
@@ -109,10 +105,7 @@ impl RankNotes {
         let call = call.as_call();
         let packed = pack(call, self.starts.len() as u32, starts);
         push_all(&mut self.starts, listed_starts(call, starts));
-        self.entries.push_reserved(Entry {
-            call: packed,
-            cached,
-        });
+        self.entries.push_reserved(packed, cached);
     }
 
     /// Notes any call: the slow way, for calls that come seldom.
@@ -152,9 +145,9 @@ impl RankNotes {
     pub(crate) fn set_partner(&mut self, place: u32, half: Half, there: u32)
         ensures { self.new.calls ≡ partnered_in self.old.calls place half there }
     {
-        if (place as usize) < self.entries.len() {
-            let entry = &mut self.entries[place as usize];
-            entry.cached = entry.cached.with_partner(half, there);
+        if let Some(entry) = self.entries.get(place as usize) {
+            let cached = entry.cached().with_partner(half, there);
+            self.entries.set_cached(place as usize, cached);
         }
     }
 
@@ -163,10 +156,12 @@ impl RankNotes {
     pub(crate) fn last(&self) -> Option<Note<'_>>
         ensures { result ≡ slice_get self.now.calls (length self.now.calls - 1) }
     {
-        match self.entries.last() {
-            Some(entry) => {
-                Some(Note::of(entry, self.entries.as_slice(), self.starts.as_slice()))
-            }
+        let count = self.entries.len();
+        if count == 0 {
+            return None;
+        }
+        match self.entries.get(count - 1) {
+            Some(entry) => Some(Note::of(entry, &self.entries, self.starts.as_slice())),
             None => None,
         }
     }
@@ -178,9 +173,7 @@ impl RankNotes {
         ensures starts { IfSome result (λ note. length note.starts ≡ length (waits_for note.call)) }
     {
         match self.entries.get(place as usize) {
-            Some(entry) => {
-                Some(Note::of(entry, self.entries.as_slice(), self.starts.as_slice()))
-            }
+            Some(entry) => Some(Note::of(entry, &self.entries, self.starts.as_slice())),
             None => None,
         }
     }

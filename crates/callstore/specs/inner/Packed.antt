@@ -11,7 +11,7 @@ use Rattle.mpicall.specs.declared.call_args.CallArgs.TheVariants as call_args
 use Rattle.callstore.specs.declared.hot.TheConstants.{ANY, SEND, RECV, ISEND, IRECV, COLL, WAIT, WAITALL}
 use Rattle.callstore.specs.declared.packed.Packed.{Packed}
 use Rattle.callstore.specs.declared.packed.Packed.TheVariants.{Send, Recv, Isend, Irecv, Wait, Waitall, Waitany, Coll, Icoll, Nothing, Message, Exchange, Copy, Split}
-use Rattle.callstore.specs.declared.packed.Entry.{Entry}
+use Rattle.callstore.specs.inner.Entries.{Entry}
 use Rattle.callstore.specs.Limits.{most_calls}
 use Rattle.callstore.specs.Notes.{Noted}
 use Rattle.callstore.specs.Packed.{noted}

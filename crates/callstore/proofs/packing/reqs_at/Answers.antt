@@ -8,8 +8,8 @@ use Rattle.callstore.proofs.packing.reqs_at.Goals as goal
 
 pub loop-i-preserved : goal.loop-i-preserved
 loop-i-preserved c =
-    let few : length c.args.places.now ≤ MOST_REQUESTS = omega (arith, most_of (reqs_at c.args.entries.now c.args.places.now) c.requires, length-map c.args.places.now (req_at c.args.entries.now)) in
+    let few : length c.args.places.now ≤ MOST_REQUESTS = omega (arith, most_of (reqs_at c.args.entries.now.items c.args.places.now) c.requires, length-map c.args.places.now (req_at c.args.entries.now.items)) in
     record {
-      written = written (req_at c.args.entries.now) c.loop-i.reqs c.args.places.now c.loop-i.i c.req_at.result (omega (arith, few, c.loop-i.invariant.room)) (omega arith) c.req_at.ensures c.loop-i.invariant.written;
+      written = written (req_at c.args.entries.now.items) c.loop-i.reqs c.args.places.now c.loop-i.i c.req_at.result (omega (arith, few, c.loop-i.invariant.room)) (omega arith) c.req_at.ensures c.loop-i.invariant.written;
       room = length-set c.loop-i.reqs c.loop-i.i c.req_at.result ∙ c.loop-i.invariant.room;
     }

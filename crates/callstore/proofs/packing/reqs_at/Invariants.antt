@@ -6,6 +6,6 @@ use Rattle.callstore.proofs.packing.reqs_at.Given as goal
 -- the requests that the calls at the places so far start are written
 abbrev pub invariant-loop-i : goal.invariant-loop-i
 invariant-loop-i l = record {
-  written : take l.i l.reqs ≡ reqs_at l.entries (take l.i l.places);
+  written : take l.i l.reqs ≡ reqs_at l.entries.items (take l.i l.places);
   room : length l.reqs ≡ MOST_REQUESTS;
 }

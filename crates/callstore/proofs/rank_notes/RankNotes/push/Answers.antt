@@ -1,7 +1,7 @@
 use Rattle.std.proofs.Common.{◌≡◌, ◌∙◌, ◌-◌, ◌≤◌, vec_len, vec_capacity, ◌<◌, ◌++◌, ◌∷◌, [], List, length, map, ap, arith}
 use Rattle.std.proofs.lemmas.List.{length-map}
 use Rattle.mpicall.specs.declared.call.Call.{Call}
-use Rattle.callstore.specs.declared.packed.Entry.{Entry}
+use Rattle.callstore.specs.inner.Entries.{Entry}
 use Rattle.callstore.specs.Limits.{most_calls}
 use Rattle.callstore.specs.Notes.{Noted, calls_in, listed, AreStarts}
 use Rattle.callstore.specs.inner.Notes.{NotedList}
@@ -22,7 +22,7 @@ invariant_of-self c =
     let are_starts : AreStarts (calls_in (map (noted_of entries starts) entries)) call places = rw (same, c.as_call-call.ensures.value) c.requires.starts in
     let those = names_more entries starts places call entry are_starts in
     let few : length entries < most_calls = omega (arith, c.requires.few, ap (λ (list : List Noted). length list) same, length-map entries (noted_of entries starts)) in
-    rw (c.push_reserved.ensures.items, c.push_all.ensures, c.listed_starts.ensures)
+    rw (c.push_reserved.ensures, c.push_all.ensures, c.listed_starts.ensures)
     (stored_push entries starts (listed_starts call places) entry c.self.invariant
     (packed_stored _ starts places call entry c.as_call-call.ensures.in_ranges those.start
     (c.pack-packed.ensures.call _ starts those.are_those first) (c.pack-packed.ensures.starts starts first) (rw first c.pack-packed.ensures.end))
@@ -40,7 +40,7 @@ returns c =
     let are_starts : AreStarts (calls_in (map (noted_of entries starts) entries)) call places = rw (same, c.as_call-call.ensures.value) c.requires.starts in
     let those = names_more entries starts places call entry are_starts in
     let is = packed_noted (entries ++ entry ∷ []) starts places call entry (c.pack-packed.ensures.call _ starts those.are_those first) (c.pack-packed.ensures.starts starts first) in
-    rw (c.push_reserved.ensures.items, c.push_all.ensures, c.listed_starts.ensures)
+    rw (c.push_reserved.ensures, c.push_all.ensures, c.listed_starts.ensures)
     (notes_push entries starts (listed_starts call places) entry c.self.invariant
     ∙ ap (λ (note : Noted). map (noted_of entries starts) entries ++ note ∷ []) is
     ∙ ap (λ (notes : List Noted). notes ++ noted call c.args.cached places ∷ []) same
