@@ -1,4 +1,4 @@
-use Rattle.std.proofs.Common.{◌≡◌, Some, None, sym, ap, ◌∙◌}
+use Rattle.std.proofs.Common.{◌≡◌, Some, None, refl, sym, ap, ◌∙◌}
 use Rattle.std.specs.Prelude.{option_and_then}
 use Rattle.callstore.specs.inner.Notes.{recording_of}
 use Rattle.pairing.specs.Probed.{probed_envelope, probed_envelope_at, probed_by}
@@ -29,3 +29,11 @@ returns-in_err-envelope c =
     let envelope : probed_envelope c.args.self.now.head c.args.rank c.in_ok-note.note.call ≡ None = rw (sym c.call.ensures, sym c.probed.ensures, c.in_ok-probed.was) (sym c.received_by.ensures ∙ c.in_err-envelope.was) in
     let probes : probed_envelope_at c.args.self.now.head recording c.args.rank c.args.place ≡ None = rw present envelope in
     c.from_residual-in_err-envelope.ensures ∙ sym (ap (option_and_then (probed_by c.args.self.now.head recording c.args.rank c.args.place)) probes)
+
+pub returns-in_err-probed : goal.returns-in_err-probed
+returns-in_err-probed c =
+    let recording = recording_of c.args.self.now.notes.lists in
+    let present = its_call c.args.self.now.notes.lists c.args.rank c.args.place c.in_ok-note.note (sym c.get.ensures.value ∙ c.in_ok-note.was) in
+    let envelope : probed_envelope c.args.self.now.head c.args.rank c.in_ok-note.note.call ≡ None = rw (sym c.call.ensures, sym c.probed.ensures, c.in_err-probed.was) refl in
+    let probes : probed_envelope_at c.args.self.now.head recording c.args.rank c.args.place ≡ None = rw present envelope in
+    c.from_residual-in_err-probed.ensures ∙ sym (ap (option_and_then (probed_by c.args.self.now.head recording c.args.rank c.args.place)) probes)
