@@ -21,8 +21,8 @@ index_mut-slot-requires c =
     let many = as_many c.self.inside.slots.items c.self.inside.pairs.items in
     let same = ap (λ (list : EntryList). length list.items) c.self.view_is in
     elim c.if-is_apart.branch [
-      then-is_apart w ↦ rw w.self-inside-is (omega (arith, c.requires, many, same))
-    | else-is_apart w ↦ rw w.self-inside-is (omega (arith, c.requires, many, same))
+      | then-is_apart w ↦ rw w.self-inside-is (omega (arith, c.requires, many, same))
+      | else-is_apart w ↦ rw w.self-inside-is (omega (arith, c.requires, many, same))
     ]
 
 -- the slot is that of the old entry, and its call stays
@@ -42,22 +42,22 @@ returns c old at =
     let there : slice_get (entries_of slots pairs) c.args.index ≡ Some old = rw same at in
     let within : c.args.index < length slots = omega (arith, c.requires, many, long) in
     elim c.if-is_apart.branch [
-      then-is_apart w ↦
-        let slots_are : c.if-is_apart.self-inside.slots.items ≡ slots = ap (λ (it : Inside). it.slots.items) w.self-inside-is in
-        let read : slice_get slots c.args.index ≡ Some c.index_mut-slot.result.now =
-            rw (← slots_are) (slice_get_read c.if-is_apart.self-inside.slots.items (length c.if-is_apart.self-inside.slots.items) c.args.index c.index_mut-slot.result.now refl (rw slots_are within) c.index_mut-slot.ensures.value) in
-        let slot : Slot = record { call = old.call; mark = c.of-mark.result } in
-        rw (same_call slots pairs c.args.index c.index_mut-slot.result.now old read there, w.self-inside-is, w.pair_of.ensures)
-        (set_both slots w.fill.new.pairs.items c.args.index slot (pair_of c.args.cached) (omega (arith, within, w.fill.ensures.count, w.len.ensures))
-        ∙ ap (λ (entries : List Entry). set entries c.args.index (entry_of slot (pair_of c.args.cached))) (w.fill.ensures.same slots ∙ same)
-        ∙ ap (λ (kept : CachedMatch). set c.args.self.now.items c.args.index (record { call = old.call; cached = kept })) c.of-mark.ensures)
-    | else-is_apart w ↦
-        let slots_are : c.if-is_apart.self-inside.slots.items ≡ slots = ap (λ (it : Inside). it.slots.items) w.self-inside-is in
-        let read : slice_get slots c.args.index ≡ Some c.index_mut-slot.result.now =
-            rw (← slots_are) (slice_get_read c.if-is_apart.self-inside.slots.items (length c.if-is_apart.self-inside.slots.items) c.args.index c.index_mut-slot.result.now refl (rw slots_are within) c.index_mut-slot.ensures.value) in
-        let slot : Slot = record { call = old.call; mark = c.of-mark.result } in
-        rw (same_call slots pairs c.args.index c.index_mut-slot.result.now old read there, w.self-inside-is)
-        (set_alone slots pairs c.args.index slot (record { call = old.call; cached = c.args.cached })
-        (λ pair. entry_near old.call c.of-mark.result c.args.cached pair c.of-mark.ensures (sym c.is_apart.ensures ∙ w.if-is_apart.false))
-        ∙ ap (λ (entries : List Entry). set entries c.args.index (record { call = old.call; cached = c.args.cached })) same)
+      | then-is_apart w ↦
+          let slots_are : c.if-is_apart.self-inside.slots.items ≡ slots = ap (λ (it : Inside). it.slots.items) w.self-inside-is in
+          let read : slice_get slots c.args.index ≡ Some c.index_mut-slot.result.now =
+          rw (← slots_are) (slice_get_read c.if-is_apart.self-inside.slots.items (length c.if-is_apart.self-inside.slots.items) c.args.index c.index_mut-slot.result.now refl (rw slots_are within) c.index_mut-slot.ensures.value) in
+          let slot : Slot = record { call = old.call; mark = c.of-mark.result } in
+          rw (same_call slots pairs c.args.index c.index_mut-slot.result.now old read there, w.self-inside-is, w.pair_of.ensures)
+          (set_both slots w.fill.new.pairs.items c.args.index slot (pair_of c.args.cached) (omega (arith, within, w.fill.ensures.count, w.len.ensures))
+          ∙ ap (λ (entries : List Entry). set entries c.args.index (entry_of slot (pair_of c.args.cached))) (w.fill.ensures.same slots ∙ same)
+          ∙ ap (λ (kept : CachedMatch). set c.args.self.now.items c.args.index (record { call = old.call; cached = kept })) c.of-mark.ensures)
+      | else-is_apart w ↦
+          let slots_are : c.if-is_apart.self-inside.slots.items ≡ slots = ap (λ (it : Inside). it.slots.items) w.self-inside-is in
+          let read : slice_get slots c.args.index ≡ Some c.index_mut-slot.result.now =
+          rw (← slots_are) (slice_get_read c.if-is_apart.self-inside.slots.items (length c.if-is_apart.self-inside.slots.items) c.args.index c.index_mut-slot.result.now refl (rw slots_are within) c.index_mut-slot.ensures.value) in
+          let slot : Slot = record { call = old.call; mark = c.of-mark.result } in
+          rw (same_call slots pairs c.args.index c.index_mut-slot.result.now old read there, w.self-inside-is)
+          (set_alone slots pairs c.args.index slot (record { call = old.call; cached = c.args.cached })
+          (λ pair. entry_near old.call c.of-mark.result c.args.cached pair c.of-mark.ensures (sym c.is_apart.ensures ∙ w.if-is_apart.false))
+          ∙ ap (λ (entries : List Entry). set entries c.args.index (record { call = old.call; cached = c.args.cached })) same)
     ]

@@ -31,5 +31,5 @@ returns-in_default c =
     let items = c.self.inside.entries.items in
     let noted = noted_of items c.self.inside.starts.items in
     let none : slice_get calls c.args.place ≡ None =
-        ap (λ (list : NotedList). slice_get list.calls c.args.place) (sym c.self.view_is) ∙ slice_get-map noted items c.args.place ∙ ap (option_map noted) (sym c.in_default.ensures) in
+    ap (λ (list : NotedList). slice_get list.calls c.args.place) (sym c.self.view_is) ∙ slice_get-map noted items c.args.place ∙ ap (option_map noted) (sym c.in_default.ensures) in
     sym (ap (λ (o : Option Noted). option_map_or (λ note. slice_set calls c.args.place (note_with c.args.half c.args.there note)) o calls) none)

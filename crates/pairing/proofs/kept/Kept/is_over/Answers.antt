@@ -15,7 +15,7 @@ returns-in-Some c =
     let calls = calls_of (recording_of notes) c.args.rank in
     let last = length (notes_of notes c.args.rank) - 1 in
     let there : slice_get calls (length calls - 1) ≡ Some c.in-Some.note.call =
-        ap (λ (n : ℕ). slice_get calls (n - 1)) (count_noted notes c.args.rank) ∙ its_call notes c.args.rank last c.in-Some.note (sym c.in-Some.ensures) in
+    ap (λ (n : ℕ). slice_get calls (n - 1)) (count_noted notes c.args.rank) ∙ its_call notes c.args.rank last c.in-Some.note (sym c.in-Some.ensures) in
     c.ends_list.ensures ∙ ap ends_list c.call.ensures ∙ sym (ap (λ (call : Option Call). option_map_or ends_list call false) there)
 
 pub returns-in-None : goal.returns-in-None
@@ -24,5 +24,5 @@ returns-in-None c =
     let calls = calls_of (recording_of notes) c.args.rank in
     let last = length (notes_of notes c.args.rank) - 1 in
     let there : slice_get calls (length calls - 1) ≡ None =
-        ap (λ (n : ℕ). slice_get calls (n - 1)) (count_noted notes c.args.rank) ∙ no_call notes c.args.rank last (sym c.in-None.ensures) in
+    ap (λ (n : ℕ). slice_get calls (n - 1)) (count_noted notes c.args.rank) ∙ no_call notes c.args.rank last (sym c.in-None.ensures) in
     sym (ap (λ (call : Option Call). option_map_or ends_list call false) there)
