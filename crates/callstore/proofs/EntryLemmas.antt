@@ -1,8 +1,9 @@
 -- The stored calls of a rank by their slots and pairs.
-use Rattle.std.proofs.Common.{◌≡◌, ℕ, zero, suc, ◌<◌, ◌≤◌, false, List, [], ◌∷◌, ◌++◌, length, refl, sym, ap, ◌∙◌, arith, set}
+use Rattle.std.proofs.Common.{◌≡◌, ℕ, Some, zero, suc, ◌<◌, ◌≤◌, false, List, [], ◌∷◌, ◌++◌, length, refl, sym, ap, ◌∙◌, arith, set}
 use Rattle.std.specs.Option.{option_map}
 use Rattle.std.specs.List.{slice_get}
 use Rattle.std.proofs.lemmas.Bool.{false≢true}
+use Rattle.std.proofs.lemmas.Option.{same_Some}
 use Rattle.callstore.specs.declared.packed.Packed.{Packed}
 use Rattle.callstore.specs.declared.mark.Mark.{Mark}
 use Rattle.callstore.specs.declared.mark.Mark.TheVariants as mark
@@ -76,3 +77,10 @@ entry_near call m cached pair is here =
   where
     entry : Packed → CachedMatch → Entry
     entry call kept = record { call = call; cached = kept }
+
+-- the slot is that of the old entry, and its call stays
+pub same_call : (slots : List Slot) (pairs : List Pair) (index : ℕ) (slot : Slot) (old : Entry) → slice_get slots index ≡ Some slot → slice_get (entries_of slots pairs) index ≡ Some old → slot.call ≡ old.call
+same_call slots pairs index slot old there at =
+    ap (λ (entry : Entry). entry.call)
+    (same_Some (entry_of slot (pair_at pairs index)) old
+    (sym (found slots pairs index ∙ ap (option_map (λ (slot : Slot). entry_of slot (pair_at pairs index))) there) ∙ at))

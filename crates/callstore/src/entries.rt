@@ -2,10 +2,14 @@
 //! the last that has both partners, if any has.
 
 ghost use Rattle.std.specs.Prelude.{◌≡◌, ◌∷◌, ◌++◌, ◌≤◌, ◌<◌, [], Some, List, length, option_map, slice_get, slice_set, vec_len, vec_capacity, OnOk};
+ghost use Rattle.callstore.specs.CachedMatch.{partner_in, wave_in, with_partner};
+ghost use Rattle.callstore.specs.declared.cached_match.CachedMatch.TheVariants.{Nothing};
 ghost use Rattle.callstore.specs.inner.Entries.{Entry, entries_of, entry_at};
+ghost use Rattle.callstore.specs.inner.Marks.{far};
 ghost use Rattle.callstore.specs.declared.entries.Slot.{Slot};
 
 use crate::cached_match::CachedMatch;
+use crate::envelope::Half;
 use crate::growth::make_room;
 use crate::mark::{Mark, Pair, pair_of};
 use crate::packed::Packed;
@@ -35,11 +39,26 @@ pub(crate) struct EntryRef<'a> {
 
 impl<'a> EntryRef<'a> {
     /// What is kept with the call.
-    #[inline(always)]
     pub(crate) fn cached(&self) -> CachedMatch
         ensures { result ≡ (entry_at self.now).cached }
     {
         self.slot.mark.kept(self.pairs, self.index)
+    }
+
+    /// The place of a half's partner that is kept with the call.
+    #[inline(always)]
+    pub(crate) fn partner(&self, half: Half) -> Option<u32>
+        ensures { result ≡ partner_in half (entry_at self.now).cached }
+    {
+        self.slot.mark.partner(half, self.pairs, self.index)
+    }
+
+    /// The number of the wave that is kept with the call; 0 where none is.
+    #[inline(always)]
+    pub(crate) fn wave(&self) -> u32
+        ensures { result ≡ wave_in (entry_at self.now).cached }
+    {
+        self.slot.mark.wave(self.pairs, self.index)
     }
 }
 
@@ -135,8 +154,19 @@ impl Entries {
         self.slots.push_reserved(Slot { call, mark });
     }
 
-    /// Keeps another match with the call at the index.
+    /// Keeps the place of a half's partner, below `FAR`, with the call at the index, with which nothing else is kept then.
     #[inline(always)]
+    pub(crate) fn set_alone(&mut self, index: usize, half: Half, there: u32)
+        requires within { index < length self.old.items }
+        requires near { there < far }
+        ensures { (old : Entry) → slice_get self.old.items index ≡ Some old →
+            self.new.items ≡ slice_set self.old.items index (record { call = old.call; cached = with_partner half there Nothing }) }
+    {
+        let slot = &mut self.slots[index];
+        slot.mark = Mark::of_partner(half, there);
+    }
+
+    /// Keeps another match with the call at the index.
     pub(crate) fn set_cached(&mut self, index: usize, cached: CachedMatch)
         requires { index < length self.old.items }
         ensures { (old : Entry) → slice_get self.old.items index ≡ Some old →

@@ -1,13 +1,16 @@
 //! What is kept with a call, in 4 bytes where it is one number below 16,777,216, as the places of calls are. Any
 //! other has its numbers in a pair: of what comes often, that is an MPI_Sendrecv with both partners.
 
-ghost use Rattle.std.specs.Prelude.{◌≡◌, ◌<◌, ◌%◌};
+ghost use Rattle.std.specs.Prelude.{◌≡◌, ◌<◌, ◌%◌, true, false};
+ghost use Rattle.callstore.specs.CachedMatch.{partner_in, wave_in, with_partner};
+ghost use Rattle.callstore.specs.declared.cached_match.CachedMatch.TheVariants.{Nothing, Wave};
 ghost use Rattle.callstore.specs.inner.Marks.{far, is_apart, joined, kept_by, pair_at, pair_of};
 
 use crate::cached_match::CachedMatch;
+use crate::envelope::Half;
 
 /// Numbers below this one are kept in a mark.
-const FAR: u32 = 16_777_216;
+pub(crate) const FAR: u32 = 16_777_216;
 
 /// What is kept with a call: its one number, by the high 8 and the low 16 bits, or what the numbers in the call's
 /// pair are.
@@ -75,44 +78,114 @@ pub(crate) fn pair_of(cached: CachedMatch) -> Pair
 }
 
 impl Mark {
-    /// The mark of what is kept with a call.
+    /// The mark of a number with a call's wave.
     #[inline(always)]
-    pub(crate) fn of(cached: CachedMatch) -> Mark
+    fn of_wave(number: u32) -> Mark
+        ensures { kept_by result (pair_of (Wave number)) ≡ Wave number }
+    {
+        if number < FAR {
+            Mark::Wave {
+                high: high_bits(number),
+                low: low_bits(number),
+            }
+        } else {
+            Mark::FarWave
+        }
+    }
+
+    /// The mark of the place of a half's partner, which is below `FAR`.
+    #[inline(always)]
+    pub(crate) fn of_partner(half: Half, there: u32) -> Mark
+        requires { there < far }
+        ensures kept { kept_by result (pair_of (with_partner half there Nothing)) ≡ with_partner half there Nothing }
+        ensures here { is_apart result ≡ false }
+    {
+        let (high, low) = (high_bits(there), low_bits(there));
+        match half {
+            Half::Send => Mark::Sent { high, low },
+            Half::Recv => Mark::Received { high, low },
+        }
+    }
+
+    /// The mark of a call's partners.
+    #[inline(never)]
+    fn of_partners(cached: CachedMatch) -> Mark
         ensures { kept_by result (pair_of cached) ≡ cached }
     {
         match cached {
             CachedMatch::Nothing => Mark::Nothing,
-            CachedMatch::Wave { number } => {
-                if number < FAR {
-                    Mark::Wave {
-                        high: high_bits(number),
-                        low: low_bits(number),
-                    }
-                } else {
-                    Mark::FarWave
-                }
-            }
+            CachedMatch::Wave { number } => Mark::of_wave(number),
             CachedMatch::Sent { to } => {
                 if to < FAR {
-                    Mark::Sent {
-                        high: high_bits(to),
-                        low: low_bits(to),
-                    }
+                    Mark::of_partner(Half::Send, to)
                 } else {
                     Mark::FarSent
                 }
             }
             CachedMatch::Received { from } => {
                 if from < FAR {
-                    Mark::Received {
-                        high: high_bits(from),
-                        low: low_bits(from),
-                    }
+                    Mark::of_partner(Half::Recv, from)
                 } else {
                     Mark::FarReceived
                 }
             }
             CachedMatch::Exchanged { .. } => Mark::Exchanged,
+        }
+    }
+
+    /// The mark of what is kept with a call. A call has no partners when it comes, so these go the slow way.
+    #[inline(always)]
+    pub(crate) fn of(cached: CachedMatch) -> Mark
+        ensures { kept_by result (pair_of cached) ≡ cached }
+    {
+        match cached {
+            CachedMatch::Nothing => Mark::Nothing,
+            CachedMatch::Wave { number } => Mark::of_wave(number),
+            _ => Mark::of_partners(cached),
+        }
+    }
+
+    /// Whether nothing is kept with the call.
+    #[inline(always)]
+    pub(crate) fn is_empty(&self) -> bool
+        ensures { result ≡ true → (pair : Pair) → kept_by self.now pair ≡ Nothing }
+    {
+        matches!(*self, Mark::Nothing)
+    }
+
+    /// The place of a half's partner.
+    #[inline(always)]
+    pub(crate) fn partner(self, half: Half, pairs: &[Pair], index: usize) -> Option<u32>
+        ensures { result ≡ partner_in half (kept_by self (pair_at pairs.now index)) }
+    {
+        match (half, self) {
+            (Half::Send, Mark::Sent { high, low }) | (Half::Recv, Mark::Received { high, low }) => {
+                Some(joined(high, low))
+            }
+            (_, Mark::Nothing | Mark::Wave { .. } | Mark::Sent { .. } | Mark::Received { .. }) => {
+                None
+            }
+            _ => self.partner_apart(half, pairs, index),
+        }
+    }
+
+    /// The place of a half's partner, whatever is kept with the call.
+    #[inline(never)]
+    fn partner_apart(self, half: Half, pairs: &[Pair], index: usize) -> Option<u32>
+        ensures { result ≡ partner_in half (kept_by self (pair_at pairs.now index)) }
+    {
+        self.kept(pairs, index).partner(half)
+    }
+
+    /// The number of the call's wave; 0 where none is kept.
+    #[inline(always)]
+    pub(crate) fn wave(self, pairs: &[Pair], index: usize) -> u32
+        ensures { result ≡ wave_in (kept_by self (pair_at pairs.now index)) }
+    {
+        match self {
+            Mark::Wave { high, low } => joined(high, low),
+            Mark::FarWave => pair_at(pairs, index).first,
+            _ => 0,
         }
     }
 
@@ -128,11 +201,10 @@ impl Mark {
     }
 
     /// What is kept with the call whose pair has that index.
-    #[inline(always)]
-    pub(crate) fn kept(&self, pairs: &[Pair], index: usize) -> CachedMatch
-        ensures { result ≡ kept_by self.now (pair_at pairs.now index) }
+    pub(crate) fn kept(self, pairs: &[Pair], index: usize) -> CachedMatch
+        ensures { result ≡ kept_by self (pair_at pairs.now index) }
     {
-        match *self {
+        match self {
             Mark::Nothing => CachedMatch::Nothing,
             Mark::Wave { high, low } => CachedMatch::Wave {
                 number: joined(high, low),
@@ -164,6 +236,7 @@ impl Mark {
 }
 
 /// The pair with that index; zeros where there is none.
+#[inline(never)]
 fn pair_at(pairs: &[Pair], index: usize) -> Pair
     ensures { result ≡ pair_at pairs.now index }
 {

@@ -70,7 +70,7 @@ impl<'a> Note<'a> {
     pub fn partner(&self, half: Half) -> Option<u32>
         ensures { result ≡ partner_in half self.now.cached }
     {
-        self.entry.cached().partner(half)
+        self.entry.partner(half)
     }
 
     /// How many collectives of its communicator its rank made before, where the call is one.
@@ -78,7 +78,7 @@ impl<'a> Note<'a> {
     pub fn joined(&self) -> u32
         ensures { result ≡ wave_in self.now.cached }
     {
-        self.entry.cached().wave()
+        self.entry.wave()
     }
 
     /// The places that started the requests which the call names, in its order; none where it is no wait.

@@ -10,6 +10,7 @@ use crate::cached_match::CachedMatch;
 use crate::entries::Entries;
 use crate::envelope::Half;
 use crate::hot::hot_kind;
+use crate::mark::FAR;
 use crate::note::Note;
 use crate::packing::{listed, listed_starts, pack};
 use mpicall::record::Record;
@@ -140,14 +141,28 @@ impl RankNotes {
         }
     }
 
-    /// Keeps the place of a half's partner with the call at the place, if there is one.
-    #[inline(always)]
-    pub(crate) fn set_partner(&mut self, place: u32, half: Half, there: u32)
+    /// Keeps the place of a half's partner with the call at the place, if there is one, whatever is kept with it.
+    #[inline(never)]
+    fn set_any_partner(&mut self, place: u32, half: Half, there: u32)
         ensures { self.new.calls ≡ partnered_in self.old.calls place half there }
     {
         if let Some(entry) = self.entries.get(place as usize) {
             let cached = entry.cached().with_partner(half, there);
             self.entries.set_cached(place as usize, cached);
+        }
+    }
+
+    /// Keeps the place of a half's partner with the call at the place, if there is one. Most often nothing else is kept
+    /// with it.
+    #[inline(always)]
+    pub(crate) fn set_partner(&mut self, place: u32, half: Half, there: u32)
+        ensures { self.new.calls ≡ partnered_in self.old.calls place half there }
+    {
+        match self.entries.get(place as usize) {
+            Some(entry) if there < FAR && entry.slot.mark.is_empty() => {
+                self.entries.set_alone(place as usize, half, there);
+            }
+            _ => self.set_any_partner(place, half, there),
         }
     }
 

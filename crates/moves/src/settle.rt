@@ -189,7 +189,7 @@ fn kind_of(call: &Option<CallAt<'_>>) -> u8 {
 }
 
 /// Wakes all that wait for a call of this kind at the place. There is one such function for each kind that comes often,
-/// built for it alone, and one for no call; another kind of call goes the slow way.
+/// built for it alone; another kind of call goes the slow way.
 fn reach_of<const KIND: u8>(
     world: &World,
     positions: &mut Positions,
@@ -208,7 +208,8 @@ fn reach_of<const KIND: u8>(
     }
 }
 
-/// Wakes all that wait for the call at the place, by the function of its kind.
+/// Wakes all that wait for the call at the place, by the function of its kind. Where there is no call yet, nothing is
+/// done, and no function is called.
 #[inline(always)]
 fn reach(world: &World, positions: &mut Positions, at: At, call: &Option<CallAt<'_>>)
     requires reached { AreReached world.now positions.old at.0 at.1 }
@@ -216,12 +217,14 @@ fn reach(world: &World, positions: &mut Positions, at: At, call: &Option<CallAt<
     requires seen { IsSeenIf world.now at call.now }
     ensures { HaveWoken world.now positions.old positions.new at.0 }
 {
-    by_kind!(
-        kind_of(call),
-        reach_of(world, positions, at, call),
-        NONE => reach_of::<NONE>(world, positions, at, call),
-        _ => reach_any(world, positions, at, call)
-    )
+    match call {
+        Some(_) => by_kind!(
+            kind_of(call),
+            reach_of(world, positions, at, call),
+            _ => reach_any(world, positions, at, call)
+        ),
+        None => reach_call(world, positions, at, call),
+    }
 }
 
 /// Wakes all that wait for the rank's call at the place, to which the rank has just come, and looks at the rank there.
@@ -302,8 +305,20 @@ fn settle(world: &World, positions: &mut Positions)
     }
 }
 
+/// Looks at the rank in hand, and then at others until none is to be looked at. It takes no memory.
+#[inline(never)]
+fn settle_from(world: &World, positions: &mut Positions, rank: u16)
+    requires { HaveInHand world.now positions.old rank }
+    ensures settled { AreSettled world.now positions.new }
+    ensures goes_on { GoOn positions.old positions.new }
+{
+    let look = look_at(world, positions, rank);
+    settle_rank(world, positions, rank, look);
+    settle(world, positions);
+}
+
 /// Moves the ranks on once a rank's call has arrived at the place, at its list's end: only where the rank
-/// stands there is any rank woken.
+/// stands there is any rank woken. Most often none is.
 #[inline(always)]
 pub(crate) fn arrive(world: &World, positions: &mut Positions, rank: u16, place: u32)
     requires { HaveArrival world.now positions.old rank place }
@@ -313,6 +328,8 @@ pub(crate) fn arrive(world: &World, positions: &mut Positions, rank: u16, place:
     if positions.stand(rank) == place {
         let look = come_to(world, positions, rank, place);
         settle_rank(world, positions, rank, look);
-        settle(world, positions);
+        if let Some(other) = positions.waiters.next() {
+            settle_from(world, positions, other);
+        }
     }
 }

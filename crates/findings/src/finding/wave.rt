@@ -4,9 +4,9 @@
 //! member, with the kinds of the first member's calls, which are looked up once for all. Only waves that
 //! are not alike are then taken one by one.
 
-ghost use Rattle.std.specs.Prelude.{◌≡◌, ◌+◌, ◌<◌, ◌≤◌, ◌-◌, ◌++◌, ℕ, [], length, flat_map, is_some, option_to_list, IsTrue, IfOk, OnOk};
+ghost use Rattle.std.specs.Prelude.{◌≡◌, ◌+◌, ◌<◌, ◌≤◌, ◌-◌, ◌++◌, ℕ, Some, [], length, flat_map, is_some, option_to_list, IsTrue, IfOk, OnOk};
 ghost use Rattle.std.specs.List.{filter, range_with_len};
-ghost use Rattle.mpigroup.specs.Groups.{group_of};
+ghost use Rattle.mpigroup.specs.Groups.{group_of, world_rank_of};
 ghost use Rattle.callstore.specs.Limits.{most_calls};
 ghost use Rattle.callstore.specs.Waves.{member_of};
 ghost use Rattle.findings.specs.Places.{call_of_member};
@@ -112,14 +112,33 @@ fn first_kinds(pairs: &Pairs, comm: u16, from: u32, count: usize) -> [Option<Kin
     kinds
 }
 
+/// A member of a communicator: its rank in the group, and that of the world.
+#[derive(Clone, Copy)]
+struct Member {
+    comm: u16,
+    g: u16,
+    rank: u16,
+}
+
+/// The kind of a member's call in a wave, where it is a collective that isn't started alone.
+#[inline(always)]
+fn kind_of_member(pairs: &Pairs, member: Member, wave: u32) -> Option<Kind>
+    requires { world_rank_of pairs.now.groups member.comm member.g ≡ Some member.rank }
+    ensures { result ≡ kind_in pairs.now.groups pairs.now.recording member.comm wave member.g }
+{
+    let place = pairs.member(member.comm, wave, member.g)?;
+    pairs.call(member.rank, place)?.kind()
+}
+
 /// Whether a member's call in a wave is a collective of that kind, which is the first member's.
 #[inline(always)]
-fn is_of_kind(pairs: &Pairs, comm: u16, wave: u32, g: u16, first: Option<Kind>) -> bool
-    requires { first ≡ kind_in pairs.now.groups pairs.now.recording comm wave 0 }
+fn is_of_kind(pairs: &Pairs, member: Member, wave: u32, first: Option<Kind>) -> bool
+    requires member { world_rank_of pairs.now.groups member.comm member.g ≡ Some member.rank }
+    requires first { first ≡ kind_in pairs.now.groups pairs.now.recording member.comm wave 0 }
     ensures { IsTrue result → (compared : Compared) →
-        found_of_member (comparison_of compared) pairs.now.groups pairs.now.recording comm wave g ≡ [] }
+        found_of_member (comparison_of compared) pairs.now.groups pairs.now.recording member.comm wave member.g ≡ [] }
 {
-    match (first, kind_in(pairs, comm, wave, g)) {
+    match (first, kind_of_member(pairs, member, wave)) {
         (Some(first), Some(kind)) => are_same_kind(first, kind),
         _ => false,
     }
@@ -133,8 +152,12 @@ fn is_alike_in_block(pairs: &Pairs, comm: u16, from: u32, kinds: &[Option<Kind>]
     ensures { IsTrue result → (compared : Compared) (i : ℕ) → i < length kinds.now →
         found_of_member (comparison_of compared) pairs.now.groups pairs.now.recording comm (from + i) g ≡ [] }
 {
+    let Some(rank) = pairs.head().world_rank(comm, g) else {
+        return false;
+    };
+    let member = Member { comm, g, rank };
     for i in 0..kinds.len() {
-        if !is_of_kind(pairs, comm, from + i as u32, g, kinds[i]) {
+        if !is_of_kind(pairs, member, from + i as u32, kinds[i]) {
             return false;
         }
     }

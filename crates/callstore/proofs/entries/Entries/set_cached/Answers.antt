@@ -1,14 +1,14 @@
 use Rattle.std.proofs.Common.{◌≡◌, ◌∙◌, ◌<◌, ℕ, Some, List, ap, length, refl, sym, set, arith}
 use Rattle.std.specs.Option.{option_map}
 use Rattle.std.specs.List.{slice_get}
-use Rattle.std.proofs.lemmas.Option.{same_Some, slice_get_read}
+use Rattle.std.proofs.lemmas.Option.{slice_get_read}
 use Rattle.callstore.specs.declared.entries.Entries.TheInside.{Inside}
 use Rattle.callstore.specs.declared.cached_match.CachedMatch.{CachedMatch}
 use Rattle.callstore.specs.declared.entries.Slot.{Slot}
 use Rattle.callstore.specs.declared.mark.Pair.{Pair}
 use Rattle.callstore.specs.inner.Entries.{Entry, EntryList, entries_of, entry_of}
 use Rattle.callstore.specs.inner.Marks.{pair_at, pair_of}
-use Rattle.callstore.proofs.EntryLemmas.{as_many, found, set_both, set_alone, entry_near}
+use Rattle.callstore.proofs.EntryLemmas.{as_many, same_call, set_both, set_alone, entry_near}
 use Rattle.callstore.proofs.entries.Entries.set_cached.Goals as goal
 use Rattle.callstore.proofs.entries.Entries.set_cached.Goals.{then-is_apart, else-is_apart}
 
@@ -24,13 +24,6 @@ index_mut-slot-requires c =
       | then-is_apart w ↦ rw w.self-inside-is (omega (arith, c.requires, many, same))
       | else-is_apart w ↦ rw w.self-inside-is (omega (arith, c.requires, many, same))
     ]
-
--- the slot is that of the old entry, and its call stays
-same_call : (slots : List Slot) (pairs : List Pair) (index : ℕ) (slot : Slot) (old : Entry) → slice_get slots index ≡ Some slot → slice_get (entries_of slots pairs) index ≡ Some old → slot.call ≡ old.call
-same_call slots pairs index slot old there at =
-    ap (λ (entry : Entry). entry.call)
-    (same_Some (entry_of slot (pair_at pairs index)) old
-    (sym (found slots pairs index ∙ ap (option_map (λ (slot : Slot). entry_of slot (pair_at pairs index))) there) ∙ at))
 
 pub returns : goal.returns
 returns c old at =
