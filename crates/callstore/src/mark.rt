@@ -242,9 +242,6 @@ fn pair_at(pairs: &[Pair], index: usize) -> Pair
 {
     match pairs.get(index) {
         Some(pair) => *pair,
-        None => Pair {
-            first: 0,
-            second: 0,
-        },
+        None => pair_of(CachedMatch::Nothing),
     }
 }

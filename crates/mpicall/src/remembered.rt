@@ -161,6 +161,7 @@ impl Remembered {
 
     /// Reads the record of the first line of some bytes, where it is the line that is expected; says how many bytes it
     /// has, and else leaves the place alone.
+    #[inline(always)]
     pub(crate) fn expect(&mut self, buffered: &[u8], into: &mut Record) -> Option<usize>
         ensures { MatchOption result (into.new ≡ into.old) (BeginsWith buffered.now into.new) }
     {
@@ -188,17 +189,30 @@ impl Remembered {
         };
     }
 
-    /// Reads the record of the first line of some bytes, where it is the line that is expected, or where few lines come
-    /// again and it is one of those that come often. Says how many bytes it has, and else leaves the place alone.
+    /// Reads the record of the first line of some bytes, where lines come again and it is the one that is expected. Says
+    /// how many bytes it has, and else leaves the place alone.
+    #[inline(always)]
+    pub(crate) fn read_expected(&mut self, buffered: &[u8], into: &mut Record) -> Option<usize>
+        ensures { MatchOption result (into.new ≡ into.old) (BeginsWith buffered.now into.new) }
+    {
+        if self.missed >= MOST_MISSED {
+            return None;
+        }
+        self.expect(buffered, into)
+    }
+
+    /// Reads the record of the first line of some bytes, where few lines come again, and it is one of those that come
+    /// often, or the one that is expected. Says how many bytes it has, and else leaves the place alone.
     #[inline(always)]
     pub(crate) fn read_front(&mut self, buffered: &[u8], into: &mut Record) -> Option<usize>
         ensures { MatchOption result (into.new ≡ into.old) (BeginsWith buffered.now into.new) }
     {
-        if self.missed >= MOST_MISSED {
-            if let Some(len) = into.read_often(buffered) {
-                self.note_missed();
-                return Some(len);
-            }
+        if self.missed < MOST_MISSED {
+            return None;
+        }
+        if let Some(len) = into.read_often(buffered) {
+            self.note_missed();
+            return Some(len);
         }
         self.expect(buffered, into)
     }

@@ -90,6 +90,7 @@ impl<I: Input> Source<I> {
     /// Reads the next line's record into one place, for those that read many: a record takes some 264
     /// bytes. False once the bytes end after the end record. Only a true answer changes the place. A
     /// fault is answered for good, and so is false.
+    #[inline(always)]
     pub fn next_into(&mut self, into: &mut Record) -> Result<bool, SourceFault>
         ensures trace { Gives (coming I.left self.old) (coming I.left self.new) (answer_into result into.new) }
         ensures end { ended self.new ≡ end_of_answer (answer_into result into.new) }
@@ -111,8 +112,34 @@ impl<I: Input> Source<I> {
         }
     }
 
-    /// Reads the next line, where no end record came so far; at once, where it is the one that is expected.
+    /// Reads the next line, where no end record came so far. Where lines come again and it is the one that is expected,
+    /// that is done here, without a call of a function.
+    #[inline(always)]
     fn read_record(&mut self, into: &mut Record) -> Result<bool, SourceFault>
+        requires { self.old.stage ≡ Reading }
+        ensures trace { Gives (coming I.left self.old) (coming I.left self.new) (answer_into result into.new) }
+        ensures end { ended self.new ≡ end_of_answer (answer_into result into.new) }
+        ensures count { I.failures (input_of self.new)
+            ≡ count_after None (answer_into result into.new) (I.failures (input_of self.old)) }
+        ensures own { IfErr result IsOwnFault }
+        ensures kept { result ≢ Ok true → into.new ≡ into.old }
+        ensures line { result ≡ Ok true
+            → Consumes (unread I.left self.old) (unread I.left self.new) (spelling into.new) }
+        ensures cut { result ≡ Err ReadFailed
+            → IsCutOff I.left self.old self.new [] }
+    {
+        if let Some(count) = self.remembered.read_expected(self.window.buffered(), into) {
+            self.window.drop_front(count);
+            self.stage = stage_behind(into);
+            return Ok(true);
+        }
+        self.read_unexpected(into)
+    }
+
+    /// Reads the next line, where no end record came so far: at once, where few lines come again and it is one of those
+    /// that come often.
+    #[inline(never)]
+    fn read_unexpected(&mut self, into: &mut Record) -> Result<bool, SourceFault>
         requires { self.old.stage ≡ Reading }
         ensures trace { Gives (coming I.left self.old) (coming I.left self.new) (answer_into result into.new) }
         ensures end { ended self.new ≡ end_of_answer (answer_into result into.new) }

@@ -16,4 +16,4 @@ returns-in-Some-clause-line g c =
 
 pub returns-clause-trace : goal.returns-clause-trace
 unfolding coming
-returns-clause-trace g c = c.read_other.ensures.trace
+returns-clause-trace g c = c.read_unexpected.ensures.trace
