@@ -100,7 +100,10 @@ fn fill(pairs: &mut Vec<Pair>, count: usize)
     ensures room { vec_capacity pairs.new ≡ vec_capacity pairs.old }
 {
     for _pair in pairs.len()..count {
-        pairs.push_reserved(pair_of(CachedMatch::Nothing));
+        pairs.push_reserved(Pair {
+            first: 0,
+            second: 0,
+        });
     }
 }
 
