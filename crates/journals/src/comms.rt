@@ -158,7 +158,7 @@ pub(crate) fn first_natural(fields: &[Field]) -> Option<u32>
     ensures { result ≡ first_natural fields.now }
 {
     match fields {
-        [Field::Natural(number), ..] => Some(*number),
+        [Field::Natural(number), ..] => Some(number.get()),
         _ => None,
     }
 }
@@ -168,7 +168,7 @@ pub(crate) fn second_natural(fields: &[Field]) -> Option<u32>
     ensures { result ≡ second_natural fields.now }
 {
     match fields {
-        [_, Field::Natural(number), ..] => Some(*number),
+        [_, Field::Natural(number), ..] => Some(number.get()),
         _ => None,
     }
 }
@@ -189,7 +189,7 @@ pub(crate) fn is_same_group(mut group: &[Field], mut other: &[Field]) -> bool
         let Field::Natural(other_rank) = *other_field else {
             return false;
         };
-        if rank != other_rank {
+        if rank.get() != other_rank.get() {
             return false;
         }
         group = ranks;

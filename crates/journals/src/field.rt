@@ -12,21 +12,43 @@ ghost use Rattle.journals.specs.Fields.{positive_of, signed_field, peer_field, o
 use crate::form::Form;
 use crate::limits::GREATEST;
 use crate::texts::Piece;
+use crate::unaligned::{NaturalBytes, SignedBytes};
 use mpicall::number::read_number;
+use std::mem::size_of;
 
 /// What a field is.
 #[derive(Clone, Copy, PartialEq, Eq)]
 pub enum Field {
     /// The number of a request, a message, a communicator or a rank of the world, or bytes.
-    Natural(u32),
+    Natural(NaturalBytes),
     /// A peer, a tag, a root, a colour or a key.
-    Signed(i32),
+    Signed(SignedBytes),
     /// `null`: no peer.
     Null,
     /// `any`: a wildcard.
     Any,
     /// `undefined`: no colour.
     Undefined,
+}
+
+const _: () = prove!(size_of::<Field>() <= 5);
+
+impl Field {
+    /// The field of a natural number.
+    #[inline(always)]
+    pub fn natural(number: u32) -> Field
+        ensures { result ≡ Field.Natural number }
+    {
+        Field::Natural(NaturalBytes::of(number))
+    }
+
+    /// The field of a signed number.
+    #[inline(always)]
+    pub fn signed(number: i32) -> Field
+        ensures { result ≡ Field.Signed number }
+    {
+        Field::Signed(SignedBytes::of(number))
+    }
 }
 
 /// A canonical number from 1 to 2147483647.
@@ -43,14 +65,14 @@ pub(crate) fn read_positive(text: &[u8]) -> Option<u32>
 fn positive_field(text: &[u8]) -> Option<Field>
     ensures { result ≡ option_map (λ n. Field.Natural n) (positive_of text.now) }
 {
-    Some(Field::Natural(read_positive(text)?))
+    Some(Field::natural(read_positive(text)?))
 }
 
 /// The field of a canonical number up to a greatest one.
 fn natural_field(greatest: u32, text: &[u8]) -> Option<Field>
     ensures { result ≡ option_map (λ n. Field.Natural n) (number_up_to greatest text.now) }
 {
-    Some(Field::Natural(read_number(greatest, text)?))
+    Some(Field::natural(read_number(greatest, text)?))
 }
 
 /// The negative of a number other than 0.
@@ -79,7 +101,7 @@ fn read_signed(text: &[u8]) -> Option<i32>
 fn signed_field(text: &[u8]) -> Option<Field>
     ensures { result ≡ signed_field text.now }
 {
-    Some(Field::Signed(read_signed(text)?))
+    Some(Field::signed(read_signed(text)?))
 }
 
 fn peer_field(text: &[u8]) -> Option<Field>
@@ -150,14 +172,14 @@ fn number_field(ranks: u32, form: Form, number: u32) -> Option<Field>
             if number == 0 {
                 return None;
             }
-            Some(Field::Natural(number))
+            Some(Field::natural(number))
         }
-        Form::Comm | Form::NewComm | Form::Bytes => Some(Field::Natural(number)),
+        Form::Comm | Form::NewComm | Form::Bytes => Some(Field::natural(number)),
         Form::Member => {
             if number > ranks - 1 {
                 return None;
             }
-            Some(Field::Natural(number))
+            Some(Field::natural(number))
         }
         Form::Peer
         | Form::Source
@@ -165,7 +187,7 @@ fn number_field(ranks: u32, form: Form, number: u32) -> Option<Field>
         | Form::Colour
         | Form::Tag
         | Form::Root
-        | Form::Key => Some(Field::Signed(number as i32)),
+        | Form::Key => Some(Field::signed(number as i32)),
     }
 }
 

@@ -80,7 +80,7 @@ impl Marks {
     {
         while let [member, rest @ ..] = members {
             if let Field::Natural(rank) = *member {
-                self.set(rank, Mark::InParent);
+                self.set(rank.get(), Mark::InParent);
             }
             members = rest;
         }
@@ -113,6 +113,7 @@ impl Marks {
             let Field::Natural(rank) = *member else {
                 return false;
             };
+            let rank = rank.get();
             if self.get(rank) != Mark::InParent {
                 return false;
             }

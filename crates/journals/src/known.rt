@@ -183,7 +183,7 @@ impl Known {
         ensures { result ≡ names_completed_by (note_at self.now.notes) fields.now }
     {
         match fields {
-            [Field::Natural(request), ..] => match self.notes.get(*request) {
+            [Field::Natural(request), ..] => match self.notes.get(request.get()) {
                 Some(note) => note.completed.is_some(),
                 None => false,
             },

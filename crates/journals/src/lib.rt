@@ -13,7 +13,8 @@
 //! - `lines::Lines` is the list of the lines after the header; `word` and `fields` answer those of a place.
 //! - `word::word_of` looks words up in the table of `Words`. `form::forms_of` and `form::more_of` give the
 //!   forms of a word's fields by that table, and `field::read_field` the value of a field by its form
-//!   (`Fields`). `header::read_header` reads a header (`Header`).
+//!   (`Fields`). A field has its number in 4 bytes at any address (`unaligned`), so it takes 5 bytes.
+//!   `header::read_header` reads a header (`Header`).
 //! - Each call ends, but that of `read_journal` if the input has no end.
 //!
 //! How it is read, in private parts:
@@ -53,4 +54,5 @@ mod remembered;
 pub mod room;
 pub mod text;
 mod texts;
+pub mod unaligned;
 pub mod word;

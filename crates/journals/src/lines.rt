@@ -1,6 +1,6 @@
 //! The lines of a journal, packed.
 //!
-//! A line has 8 bytes, and its fields stay together in one list of all fields, 8 bytes each. A line that is remembered
+//! A line has 8 bytes, and its fields stay together in one list of all fields, 5 bytes each. A line that is remembered
 //! has those of the one before. A line with a fault may leave fields there that no line has.
 
 ghost use Rattle.std.specs.Prelude.{◌≡◌, ◌<◌, ◌≤◌, [], length};

@@ -53,7 +53,7 @@ fn received_in(fields: &[Field], number: u32) -> Option<(Field, Field)>
 {
     match fields {
         [Field::Natural(request), _, source, tag] => {
-            if *request == number {
+            if request.get() == number {
                 Some((*source, *tag))
             } else {
                 None
@@ -70,7 +70,7 @@ fn exchanged_in(fields: &[Field], number: u32) -> Option<(Field, Field)>
 {
     match fields {
         [_, Field::Natural(request), _, _, _, source, tag, ..] => {
-            if *request == number {
+            if request.get() == number {
                 Some((*source, *tag))
             } else {
                 None
@@ -107,8 +107,8 @@ fn duplicated_in(fields: &[Field], number: u32) -> Option<u32>
 {
     match fields {
         [Field::Natural(request), Field::Natural(comm)] => {
-            if *request == number {
-                Some(*comm)
+            if request.get() == number {
+                Some(comm.get())
             } else {
                 None
             }

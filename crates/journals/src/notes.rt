@@ -57,7 +57,7 @@ fn number_of(form: Option<Form>, field: Field) -> Option<(Form, u32)>
     ensures { result ≡ number_of form field }
 {
     match field {
-        Field::Natural(number) => Some((form?, number)),
+        Field::Natural(number) => Some((form?, number.get())),
         _ => None,
     }
 }
@@ -336,7 +336,7 @@ pub(crate) fn undo_all(notes: &mut Notes, line: u32, mut fields: &[Field]) -> Re
 {
     while let [field, rest @ ..] = fields {
         if let Field::Natural(number) = *field {
-            undo(notes, line, number)?;
+            undo(notes, line, number.get())?;
         }
         fields = rest;
     }

@@ -1,5 +1,6 @@
 -- Each field is read by its form, and put after those before it.
 use Rattle.std.proofs.Common.{◌≡◌, ◌∙◌, sym, ap, arith, length, Some, slice_get}
+use Rattle.std.proofs.lemmas.Result.{err_from_is_err_and}
 use Rattle.journals.specs.Words.{forms_of}
 use Rattle.journals.proofs.PushLemmas.{none_pushed, step_none, step_some, some_text, no_text}
 use Rattle.journals.proofs.line.push_fields.Goals as goal
@@ -28,3 +29,8 @@ loop-place-preserved c =
       so = step_some _ _ c.loop-place.place c.in-Some.form c.in-Some-next_field.text.now c.loop-place.fields c.next_field.new.self c.read_field.result c.in-Some-read_field.field _ _ _ _ form first c.read_field.ensures c.in-Some-read_field.is c.in_ok-push.ensures.items c.loop-place.invariant.so;
       left = omega (arith, ap length first);
     }
+
+pub returns-in_err-push : goal.returns-in_err-push
+returns-in_err-push c =
+    let p = err_from_is_err_and c.from_residual.result c.from_residual.ensures.1 in
+    rw (p.1, p.2) (c.loop-place.invariant.so.0, c.in_err-push.ensures.items ∙ c.loop-place.invariant.so.1)
