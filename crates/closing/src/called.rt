@@ -81,7 +81,7 @@ fn bytes_in(fields: &[Field]) -> Option<u32>
     ensures { result ≡ bytes_in fields.now }
 {
     match fields {
-        [Field::Natural(bytes)] => Some(*bytes),
+        [Field::Natural(bytes)] => Some(bytes.get()),
         _ => None,
     }
 }
@@ -110,7 +110,7 @@ fn sends<'a>(mode: Mode, fields: &[Field]) -> Called<'a>
 {
     match fields {
         [Field::Natural(comm), dest, tag, bytes @ ..] => {
-            Called::Sends(mode, make_sent(*comm, *dest, *tag, bytes))
+            Called::Sends(mode, make_sent(comm.get(), *dest, *tag, bytes))
         }
         _ => Called::Nothing,
     }
@@ -127,7 +127,13 @@ pub(crate) fn starts_send<'a>(mode: Mode, fields: &[Field]) -> Called<'a>
             dest,
             tag,
             bytes @ ..,
-        ] => { Called::StartsSend(*request, mode, make_sent(*comm, *dest, *tag, bytes)) }
+        ] => {
+            Called::StartsSend(
+                request.get(),
+                mode,
+                make_sent(comm.get(), *dest, *tag, bytes),
+            )
+        }
         _ => Called::Nothing,
     }
 }
@@ -137,7 +143,11 @@ pub(crate) fn receives<'a>(fields: &[Field]) -> Called<'a>
     ensures { called_view result ≡ awaits say.Receives fields.now }
 {
     match fields {
-        [Field::Natural(comm), source, tag] => Called::Receives(make_awaited(*comm, *source, *tag)),
+        [Field::Natural(comm), source, tag] => Called::Receives(make_awaited(
+            comm.get(),
+            *source,
+            *tag,
+        )),
         _ => Called::Nothing,
     }
 }
@@ -148,8 +158,8 @@ pub(crate) fn starts_receive<'a>(fields: &[Field]) -> Called<'a>
 {
     match fields {
         [Field::Natural(number), Field::Natural(comm), source, tag] => Called::StartsReceive(
-            *number,
-            make_awaited(*comm, *source, *tag),
+            number.get(),
+            make_awaited(comm.get(), *source, *tag),
         ),
         _ => Called::Nothing,
     }
@@ -159,7 +169,11 @@ fn probes<'a>(fields: &[Field]) -> Called<'a>
     ensures { called_view result ≡ awaits say.Probes fields.now }
 {
     match fields {
-        [Field::Natural(comm), source, tag] => Called::Probes(make_awaited(*comm, *source, *tag)),
+        [Field::Natural(comm), source, tag] => Called::Probes(make_awaited(
+            comm.get(),
+            *source,
+            *tag,
+        )),
         _ => Called::Nothing,
     }
 }
@@ -169,8 +183,8 @@ fn probes_matching<'a>(fields: &[Field]) -> Called<'a>
 {
     match fields {
         [Field::Natural(number), Field::Natural(comm), source, tag] => Called::ProbesMatching(
-            *number,
-            make_awaited(*comm, *source, *tag),
+            number.get(),
+            make_awaited(comm.get(), *source, *tag),
         ),
         _ => Called::Nothing,
     }
@@ -181,8 +195,8 @@ fn exchanges<'a>(fields: &[Field]) -> Called<'a>
 {
     match fields {
         [Field::Natural(comm), dest, tag, source, other, bytes @ ..] => Called::Exchanges(
-            make_sent(*comm, *dest, *tag, bytes),
-            make_awaited(*comm, *source, *other),
+            make_sent(comm.get(), *dest, *tag, bytes),
+            make_awaited(comm.get(), *source, *other),
         ),
         _ => Called::Nothing,
     }
@@ -202,10 +216,10 @@ fn starts_exchange<'a>(fields: &[Field]) -> Called<'a>
             other,
             bytes @ ..,
         ] => Called::StartsExchange(
-            *request,
-            *received,
-            make_sent(*comm, *dest, *tag, bytes),
-            make_awaited(*comm, *source, *other),
+            request.get(),
+            received.get(),
+            make_sent(comm.get(), *dest, *tag, bytes),
+            make_awaited(comm.get(), *source, *other),
         ),
         _ => Called::Nothing,
     }
@@ -216,7 +230,7 @@ fn rooted<'a>(collective: Collective, fields: &[Field]) -> Called<'a>
 {
     match fields {
         [Field::Natural(comm), Field::Signed(root)] => {
-            Called::Collects(collective, *comm, Some(*root))
+            Called::Collects(collective, comm.get(), Some(root.get()))
         }
         _ => Called::Nothing,
     }
@@ -230,7 +244,7 @@ fn starts_rooted<'a>(collective: Collective, fields: &[Field]) -> Called<'a>
             Field::Natural(request),
             Field::Natural(comm),
             Field::Signed(root),
-        ] => { Called::StartsCollective(*request, collective, *comm, Some(*root)) }
+        ] => { Called::StartsCollective(request.get(), collective, comm.get(), Some(root.get())) }
         _ => Called::Nothing,
     }
 }
@@ -239,7 +253,7 @@ fn unrooted<'a>(collective: Collective, fields: &[Field]) -> Called<'a>
     ensures { called_view result ≡ unrooted collective fields.now }
 {
     match fields {
-        [Field::Natural(comm)] => Called::Collects(collective, *comm, None),
+        [Field::Natural(comm)] => Called::Collects(collective, comm.get(), None),
         _ => Called::Nothing,
     }
 }
@@ -249,7 +263,7 @@ fn starts_unrooted<'a>(collective: Collective, fields: &[Field]) -> Called<'a>
 {
     match fields {
         [Field::Natural(request), Field::Natural(comm)] => {
-            Called::StartsCollective(*request, collective, *comm, None)
+            Called::StartsCollective(request.get(), collective, comm.get(), None)
         }
         _ => Called::Nothing,
     }
@@ -263,9 +277,9 @@ fn splits<'a>(fields: &[Field]) -> Called<'a>
             Field::Natural(comm),
             Field::Signed(colour),
             Field::Signed(key),
-        ] => { Called::Splits(*comm, Some(*colour), *key) }
+        ] => { Called::Splits(comm.get(), Some(colour.get()), key.get()) }
         [Field::Natural(comm), Field::Undefined, Field::Signed(key)] => {
-            Called::Splits(*comm, None, *key)
+            Called::Splits(comm.get(), None, key.get())
         }
         _ => Called::Nothing,
     }
@@ -275,7 +289,7 @@ fn receives_matched<'a>(fields: &[Field]) -> Called<'a>
     ensures { called_view result ≡ one_number say.ReceivesMatched fields.now }
 {
     match fields {
-        [Field::Natural(number)] => Called::ReceivesMatched(*number),
+        [Field::Natural(number)] => Called::ReceivesMatched(number.get()),
         _ => Called::Nothing,
     }
 }
@@ -284,7 +298,10 @@ fn starts_matched<'a>(fields: &[Field]) -> Called<'a>
     ensures { called_view result ≡ two_numbers say.StartsMatched fields.now }
 {
     match fields {
-        [Field::Natural(first), Field::Natural(second)] => Called::StartsMatched(*first, *second),
+        [Field::Natural(first), Field::Natural(second)] => Called::StartsMatched(
+            first.get(),
+            second.get(),
+        ),
         _ => Called::Nothing,
     }
 }
@@ -293,7 +310,7 @@ fn cancels<'a>(fields: &[Field]) -> Called<'a>
     ensures { called_view result ≡ one_number say.Cancels fields.now }
 {
     match fields {
-        [Field::Natural(number)] => Called::Cancels(*number),
+        [Field::Natural(number)] => Called::Cancels(number.get()),
         _ => Called::Nothing,
     }
 }
@@ -302,7 +319,7 @@ fn frees_request<'a>(fields: &[Field]) -> Called<'a>
     ensures { called_view result ≡ one_number say.FreesRequest fields.now }
 {
     match fields {
-        [Field::Natural(number)] => Called::FreesRequest(*number),
+        [Field::Natural(number)] => Called::FreesRequest(number.get()),
         _ => Called::Nothing,
     }
 }
@@ -311,7 +328,7 @@ fn duplicates<'a>(fields: &[Field]) -> Called<'a>
     ensures { called_view result ≡ one_number say.Duplicates fields.now }
 {
     match fields {
-        [Field::Natural(number)] => Called::Duplicates(*number),
+        [Field::Natural(number)] => Called::Duplicates(number.get()),
         _ => Called::Nothing,
     }
 }
@@ -320,7 +337,10 @@ fn starts_duplicate<'a>(fields: &[Field]) -> Called<'a>
     ensures { called_view result ≡ two_numbers say.StartsDuplicate fields.now }
 {
     match fields {
-        [Field::Natural(first), Field::Natural(second)] => Called::StartsDuplicate(*first, *second),
+        [Field::Natural(first), Field::Natural(second)] => Called::StartsDuplicate(
+            first.get(),
+            second.get(),
+        ),
         _ => Called::Nothing,
     }
 }
@@ -329,7 +349,7 @@ fn makes<'a>(fields: &[Field]) -> Called<'a>
     ensures { called_view result ≡ one_number say.Makes fields.now }
 {
     match fields {
-        [Field::Natural(number)] => Called::Makes(*number),
+        [Field::Natural(number)] => Called::Makes(number.get()),
         _ => Called::Nothing,
     }
 }
@@ -338,7 +358,7 @@ fn frees_comm<'a>(fields: &[Field]) -> Called<'a>
     ensures { called_view result ≡ one_number say.FreesComm fields.now }
 {
     match fields {
-        [Field::Natural(number)] => Called::FreesComm(*number),
+        [Field::Natural(number)] => Called::FreesComm(number.get()),
         _ => Called::Nothing,
     }
 }
@@ -469,7 +489,7 @@ fn sent_on(fields: &[Field]) -> Option<u32>
     ensures { (mode : ModeSaid) → result ≡ comm_of (sends mode fields.now) }
 {
     match fields {
-        [Field::Natural(comm), _, _, ..] => Some(*comm),
+        [Field::Natural(comm), _, _, ..] => Some(comm.get()),
         _ => None,
     }
 }
@@ -478,7 +498,7 @@ fn started_send_on(fields: &[Field]) -> Option<u32>
     ensures { (mode : ModeSaid) → result ≡ comm_of (starts_send mode fields.now) }
 {
     match fields {
-        [Field::Natural(_), Field::Natural(comm), _, _, ..] => Some(*comm),
+        [Field::Natural(_), Field::Natural(comm), _, _, ..] => Some(comm.get()),
         _ => None,
     }
 }
@@ -488,7 +508,7 @@ fn awaited_on(fields: &[Field]) -> Option<u32>
     ensures probed { result ≡ comm_of (awaits say.Probes fields.now) }
 {
     match fields {
-        [Field::Natural(comm), _, _] => Some(*comm),
+        [Field::Natural(comm), _, _] => Some(comm.get()),
         _ => None,
     }
 }
@@ -498,7 +518,7 @@ fn started_awaiting_on(fields: &[Field]) -> Option<u32>
     ensures probed { result ≡ comm_of (starts_awaiting say.ProbesMatching fields.now) }
 {
     match fields {
-        [Field::Natural(_), Field::Natural(comm), _, _] => Some(*comm),
+        [Field::Natural(_), Field::Natural(comm), _, _] => Some(comm.get()),
         _ => None,
     }
 }
@@ -507,7 +527,7 @@ fn exchanged_on(fields: &[Field]) -> Option<u32>
     ensures { result ≡ comm_of (exchanges fields.now) }
 {
     match fields {
-        [Field::Natural(comm), _, _, _, _, ..] => Some(*comm),
+        [Field::Natural(comm), _, _, _, _, ..] => Some(comm.get()),
         _ => None,
     }
 }
@@ -525,7 +545,7 @@ fn started_exchange_on(fields: &[Field]) -> Option<u32>
             _,
             _,
             ..
-        ] => Some(*comm),
+        ] => Some(comm.get()),
         _ => None,
     }
 }

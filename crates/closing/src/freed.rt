@@ -41,7 +41,7 @@ fn freed_by(lines: &Lines, line: u32) -> Option<u32>
         return None;
     };
     match lines.fields(line) {
-        [Field::Natural(request)] => Some(*request),
+        [Field::Natural(request)] => Some(request.get()),
         _ => None,
     }
 }

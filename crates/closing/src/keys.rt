@@ -69,7 +69,7 @@ fn push_natural(into: &mut Vec<u32>, field: Field) -> Result<(), AllocError>
     ensures { OnOk result (into.new.items ≡ into.old.items ++ naturals_in (field ∷ [])) }
 {
     if let Field::Natural(number) = field {
-        into.push(number)?;
+        into.push(number.get())?;
     }
     Ok(())
 }

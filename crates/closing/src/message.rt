@@ -14,7 +14,8 @@ use mpicall::call::Peer;
 use mpicall::limits::GREATEST_RANK;
 use mpicall::word::Collective;
 
-/// The source and the tag of a message.
+/// The source and the tag of a message. By value the kit moves one: what is used again is copied from behind a
+/// reference.
 #[derive(Clone, Copy)]
 pub(crate) struct Message {
     pub source: Field,
@@ -84,7 +85,7 @@ pub(crate) fn message_of(awaited: &Awaited, reported: Option<Message>) -> Option
     match awaited.source {
         Field::Null => Some(Message {
             source: Field::Null,
-            tag: known_field(awaited.tag, Field::Signed(0)),
+            tag: known_field(awaited.tag, Field::signed(0)),
         }),
         Field::Natural(_) | Field::Signed(_) | Field::Any | Field::Undefined => {
             message_from(awaited, reported)
@@ -99,7 +100,10 @@ pub(crate) fn peer_can_be(size: u32, peer: Field) -> bool
     ensures { result ≡ peer_can_be size peer }
 {
     match peer {
-        Field::Signed(rank) => 0 <= rank && (rank as u32) < size,
+        Field::Signed(rank) => {
+            let rank = rank.get();
+            0 <= rank && (rank as u32) < size
+        }
         Field::Null | Field::Any => true,
         _ => false,
     }
@@ -109,7 +113,7 @@ fn tag_can_be(tag: Field) -> bool
     ensures { result ≡ tag_can_be tag }
 {
     match tag {
-        Field::Signed(tag) => 0 <= tag,
+        Field::Signed(tag) => 0 <= tag.get(),
         Field::Any => true,
         _ => false,
     }
@@ -129,7 +133,7 @@ pub(crate) fn root_can_be(size: u32, collective: Collective, root: Option<i32>) 
     ensures { result ≡ root_can_be size collective root }
 {
     match root {
-        Some(root) => peer_can_be(size, Field::Signed(root)),
+        Some(root) => peer_can_be(size, Field::signed(root)),
         None => !is_rooted(collective),
     }
 }
@@ -162,21 +166,25 @@ pub(crate) fn awaited_can_be(size: u32, awaited: &Awaited, message: Option<Messa
 pub(crate) fn rank_of(peer: Field) -> Peer
     ensures { IsTrue (peer_can_be 1024 peer) → result ≡ peer_of peer }
 {
-    match peer {
-        Field::Signed(rank) if 0 <= rank && rank <= i32::from(GREATEST_RANK) => {
-            Peer::Rank(rank as u16)
-        }
-        _ => Peer::Null,
+    let Field::Signed(rank) = peer else {
+        return Peer::Null;
+    };
+    let rank = rank.get();
+    if 0 <= rank && rank <= i32::from(GREATEST_RANK) {
+        Peer::Rank(rank as u16)
+    } else {
+        Peer::Null
     }
 }
 
 pub(crate) fn tag_of(tag: Field) -> u32
     ensures { result ≡ tag_number tag }
 {
-    match tag {
-        Field::Signed(tag) if 0 <= tag => tag as u32,
-        _ => 0,
-    }
+    let Field::Signed(tag) = tag else {
+        return 0;
+    };
+    let tag = tag.get();
+    if 0 <= tag { tag as u32 } else { 0 }
 }
 
 pub(crate) fn root_of(root: Option<i32>) -> u16

@@ -163,7 +163,7 @@ impl Outcomes {
         ensures { OnOk result ((other : ℕ) → outcome_at self.new other ≡ outcome_by word fields.now line other (outcome_at self.old other)) }
     {
         if let (Some(outcome), [Field::Natural(request), ..]) = (outcome_in(word, line), fields) {
-            self.put(*request, outcome)?;
+            self.put(request.get(), outcome)?;
         }
         Ok(())
     }

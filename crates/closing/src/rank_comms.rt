@@ -213,8 +213,7 @@ impl RankComms {
             self.take_plain();
             return Ok(None);
         }
-        let called = *called;
-        self.take_counted(keys, &called, on)
+        self.take_counted(keys, called, on)
     }
 
     /// Takes a call, whether it counts or not: what it brings is sought.
@@ -345,13 +344,13 @@ impl RankComms {
     {
         match (word, fields) {
             (ReportWord::Comm, [Field::Natural(comm), members @ ..]) => {
-                self.take_made(keys, *comm, members)
+                self.take_made(keys, comm.get(), members)
             }
             (ReportWord::Idup, [Field::Natural(comm), Field::Natural(request), members @ ..]) => {
-                self.take_duplicated(keys, *comm, *request, members)
+                self.take_duplicated(keys, comm.get(), request.get(), members)
             }
             (ReportWord::Apart, [Field::Natural(comm), members @ ..]) => {
-                self.take_apart(keys, *comm, members)
+                self.take_apart(keys, comm.get(), members)
             }
             _ => Ok(None),
         }

@@ -115,7 +115,7 @@ impl Standing {
             return Awaited {
                 comm: awaited.comm,
                 source: Field::Null,
-                tag: Field::Signed(0),
+                tag: Field::signed(0),
             };
         }
         *awaited
@@ -141,8 +141,8 @@ impl Standing {
         ensures { OnOk result (into.new.items ≡ into.old.items ++ ids_in self.now (field ∷ [])) }
     {
         if let Field::Natural(request) = field {
-            if !self.is_left_out(request) {
-                into.push(self.id_of(request))?;
+            if !self.is_left_out(request.get()) {
+                into.push(self.id_of(request.get()))?;
             }
         }
         Ok(())

@@ -627,7 +627,9 @@ impl Walk {
         if entry.reports.has_failed {
             return Err(Stop::Left(Why::Failed));
         }
-        let at = self.at(run, lines, entry, it)?;
+        let Ok(at) = self.at(run, lines, entry, it) else {
+            return Err(Stop::Memory);
+        };
         let is_taken = self.takes_sink(lines, &at, it)?;
         if is_taken {
             return Ok(false);

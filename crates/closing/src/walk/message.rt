@@ -180,8 +180,9 @@ impl Walk {
             (message_said (awaited_view awaited.now) (option_map message_view at.now.got)) }
     {
         let message = message_of(awaited, at.got);
-        let comm = at.number_if(awaited_can_be(at.size(), awaited, message))?;
-        Ok((comm, known(message)?))
+        let found = &message;
+        let comm = at.number_if(awaited_can_be(at.size(), awaited, *found))?;
+        Ok((comm, known(*found)?))
     }
 
     /// Puts the receive of a message; its start, where the entry stands for what it started alone.
@@ -202,8 +203,10 @@ impl Walk {
         ensures same { self.new ≡ record self.old { list = self.new.list } }
         ensures takes { (spot : Spot) → IsAt spot at.now → Takes spot (receives_on spot (awaited_view awaited.now)) result self.old.list self.new.list }
     {
-        let (comm, message) = self.awaited(at, awaited)?;
-        self.receives_message(at.is_past, comm, &message)
+        match self.awaited(at, awaited) {
+            Ok((comm, message)) => self.receives_message(at.is_past, comm, &message),
+            Err(stop) => Err(stop),
+        }
     }
 
     #[inline(always)]
@@ -219,8 +222,9 @@ impl Walk {
             Takes spot (starts_receive_on spot own (awaited_view awaited.now)) result self.old.list self.new.list }
     {
         let message = message_of(awaited, self.requests.message(lines, own));
-        let comm = at.number_if(awaited_can_be(at.size(), awaited, message))?;
-        self.starts_receive_of(comm, own, message)
+        let found = &message;
+        let comm = at.number_if(awaited_can_be(at.size(), awaited, *found))?;
+        self.starts_receive_of(comm, own, *found)
     }
 
     /// Puts the line that starts a receive, unless that was cancelled or its message was never reported.
@@ -267,12 +271,17 @@ impl Walk {
             Takes spot (exchanges_on spot (sent_view sent.now) (awaited_view awaited.now)) result self.old.list self.new.list }
     {
         let found = message_of(awaited, at.got);
-        let comm = at.number_if(exchange_can_be(at.size(), sent, awaited, found))?;
-        let message = known(found)?;
-        if at.is_past {
-            return self.starts_halves(comm, sent, &message);
+        let reported = &found;
+        let comm = at.number_if(exchange_can_be(at.size(), sent, awaited, *reported))?;
+        match known(*reported) {
+            Ok(message) => {
+                if at.is_past {
+                    return self.starts_halves(comm, sent, &message);
+                }
+                self.list.does(&exchange_line(comm, sent, &message))
+            }
+            Err(stop) => Err(stop),
         }
-        self.list.does(&exchange_line(comm, sent, &message))
     }
 
     #[inline(never)]
@@ -287,10 +296,11 @@ impl Walk {
             Takes spot (starts_exchange_on spot it.now.own it.now.other (sent_view it.now.sent) (awaited_view it.now.awaited)) result self.old.list self.new.list }
     {
         let message = message_of(&it.awaited, self.requests.message(lines, it.other));
-        let can_be = exchange_can_be(at.size(), &it.sent, &it.awaited, message);
+        let found = &message;
+        let can_be = exchange_can_be(at.size(), &it.sent, &it.awaited, *found);
         let comm = at.number_if(can_be)?;
         self.starts_unless_gone(it.own, start_of_send(Mode::Standard, comm, &it.sent))?;
-        self.starts_receive_of(comm, it.other, message)
+        self.starts_receive_of(comm, it.other, *found)
     }
 
     /// Puts a probe, unless it stands for nothing since it came back.
@@ -310,8 +320,10 @@ impl Walk {
         ensures same { self.new ≡ record self.old { list = self.new.list } }
         ensures takes { (spot : Spot) → IsAt spot at.now → Takes spot (probes_on spot (awaited_view awaited.now)) result self.old.list self.new.list }
     {
-        let (comm, message) = self.awaited(at, awaited)?;
-        self.probes_for(at, comm, &message)
+        match self.awaited(at, awaited) {
+            Ok((comm, message)) => self.probes_for(at, comm, &message),
+            Err(stop) => Err(stop),
+        }
     }
 
     /// A matching probe takes its message here.
@@ -325,8 +337,12 @@ impl Walk {
         ensures same { self.new ≡ record self.old { list = self.new.list } }
         ensures takes { (spot : Spot) → IsAt spot at.now → Takes spot (probes_matching_on spot own (awaited_view awaited.now)) result self.old.list self.new.list }
     {
-        let (comm, message) = self.awaited(at, awaited)?;
-        self.probes_for(at, comm, &message)?;
-        self.list.starts(own, start_of_receive(comm, &message))
+        match self.awaited(at, awaited) {
+            Ok((comm, message)) => {
+                self.probes_for(at, comm, &message)?;
+                self.list.starts(own, start_of_receive(comm, &message))
+            }
+            Err(stop) => Err(stop),
+        }
     }
 }

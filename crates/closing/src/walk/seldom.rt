@@ -78,18 +78,9 @@ impl Walk {
             }
             Called::StartsDuplicate(own, _) => self.starts_duplicate(at, *own),
             Called::MakesOfGroup(_) => self.makes_of_group(at),
-            Called::Duplicates(_) => {
-                let it = *it;
-                self.makes(run, at, &it)
-            }
-            Called::Splits(..) => {
-                let it = *it;
-                self.makes(run, at, &it)
-            }
-            Called::Makes(_) => {
-                let it = *it;
-                self.makes(run, at, &it)
-            }
+            Called::Duplicates(_) => self.makes(run, at, it),
+            Called::Splits(..) => self.makes(run, at, it),
+            Called::Makes(_) => self.makes(run, at, it),
             _ => self.take_wait(lines, at, it),
         }
     }

@@ -14,7 +14,7 @@ ghost use Rattle.closing.specs.Pending.{PendingCall, unknown, pending_said};
 ghost use Rattle.closing.specs.Recording.{outcome_in};
 ghost use Rattle.closing.specs.Recordings.{choice_in};
 ghost use Rattle.closing.specs.Reported.{done_of, message_of as message_said, peer_can_be, tag_can_be};
-ghost use Rattle.closing.specs.Sinks.{number_of, overlap};
+ghost use Rattle.closing.specs.Sinks.{is_nobody, number_of, overlap};
 ghost use Rattle.closing.specs.Steps.{Progress, Starts, Whole, Written};
 ghost use Rattle.closing.specs.inner.Lists.{Handed, Stands, start_call};
 ghost use Rattle.closing.specs.inner.Outcomes.{is_gone as is_gone_of, outcome_at};
@@ -94,19 +94,41 @@ impl<'a> At<'a> {
 fn source_of(field: Field) -> Option<u16>
     ensures { IsTrue (peer_can_be 1024 field) → result ≡ number_of field }
 {
-    match field {
-        Field::Signed(rank) if 0 <= rank && rank <= i32::from(GREATEST_RANK) => Some(rank as u16),
-        _ => None,
+    let Field::Signed(rank) = field else {
+        return None;
+    };
+    let rank = rank.get();
+    if 0 <= rank && rank <= i32::from(GREATEST_RANK) {
+        Some(rank as u16)
+    } else {
+        None
     }
 }
 
 fn tag_of(field: Field) -> Option<u32>
     ensures { IsTrue (tag_can_be field) → result ≡ number_of field }
 {
-    match field {
-        Field::Signed(tag) if 0 <= tag => Some(tag as u32),
-        _ => None,
+    let Field::Signed(tag) = field else {
+        return None;
+    };
+    let tag = tag.get();
+    if 0 <= tag { Some(tag as u32) } else { None }
+}
+
+/// What may be taken of such a source and tag; None from nobody.
+fn wants_from(comm: u16, source: Field, tag: Field, is_known: bool) -> Option<Wants>
+    ensures { IsTrue (peer_can_be 1024 source) → IsTrue (tag_can_be tag) → result ≡ (if is_nobody source then None
+        else Some (with_known is_known (record { comm = comm; source = number_of source; tag = number_of tag }))) }
+{
+    if matches!(source, Field::Null) {
+        return None;
     }
+    let wanted = Wanted {
+        comm,
+        source: source_of(source),
+        tag: tag_of(tag),
+    };
+    Some(Wants { wanted, is_known })
 }
 
 /// What a receive or probe may take, with what is reported of it; None of one that takes nothing, can't be, or is on a
@@ -116,25 +138,14 @@ fn wants_of(at: &At<'_>, awaited: &Awaited, found: Option<Message>) -> Option<Wa
         (wants_in (size_at at.now) (number_at at.now) (awaited_view awaited.now) (option_map message_view found)) }
 {
     let comm = at.named?.number?;
-    if awaited.source == Field::Null || !awaited_can_be(at.size(), awaited, found) {
+    let kept = &found;
+    if awaited.source == Field::Null || !awaited_can_be(at.size(), awaited, *kept) {
         return None;
     }
-    let (source, tag) = match found {
-        Some(message) => (message.source, message.tag),
-        None => (awaited.source, awaited.tag),
-    };
-    if source == Field::Null {
-        return None;
+    match kept {
+        Some(message) => wants_from(comm, message.source, message.tag, true),
+        None => wants_from(comm, awaited.source, awaited.tag, false),
     }
-    let wanted = Wanted {
-        comm,
-        source: source_of(source),
-        tag: tag_of(tag),
-    };
-    Some(Wants {
-        wanted,
-        is_known: found.is_some(),
-    })
 }
 
 /// What the receive of an exchange wants, where its send can be too.
@@ -161,8 +172,8 @@ fn sink_of(standing: &Standing, sinks: &Sinks, field: Field) -> Option<Wanted>
     ensures { result ≡ sink_at standing.now sinks.now field }
 {
     match field {
-        Field::Natural(request) if !standing.is_left_out(request) => {
-            sinks.named(standing.id_of(request))
+        Field::Natural(request) if !standing.is_left_out(request.get()) => {
+            sinks.named(standing.id_of(request.get()))
         }
         _ => None,
     }
@@ -182,8 +193,8 @@ fn active_of(standing: &Standing, list: &List, field: Field) -> Option<Item>
     ensures { result ≡ active_at standing.now list.now field }
 {
     match field {
-        Field::Natural(request) if !standing.is_left_out(request) => {
-            let active = list.active(standing.id_of(request))?;
+        Field::Natural(request) if !standing.is_left_out(request.get()) => {
+            let active = list.active(standing.id_of(request.get()))?;
             Some(Item::Request(active.number))
         }
         _ => None,
@@ -194,9 +205,10 @@ fn active_of(standing: &Standing, list: &List, field: Field) -> Option<Item>
 fn item_of(standing: &Standing, sinks: &Sinks, list: &List, field: Field) -> Option<Item>
     ensures { result ≡ item_at standing.now sinks.now list.now field }
 {
-    match sink_of(standing, sinks, field) {
+    let named = &field;
+    match sink_of(standing, sinks, *named) {
         Some(wanted) => Some(Item::Message(wanted)),
-        None => active_of(standing, list, field),
+        None => active_of(standing, list, *named),
     }
 }
 
@@ -264,8 +276,8 @@ impl Walk {
         }
     }
 
-    /// Does what `takes_sink` does, where receives may be sinks. Most calls are plain: these would need no place in
-    /// memory if the step were inlined, which the kit's build doesn't do.
+    /// Does what `takes_sink` does, where receives may be sinks. Most calls are plain: what is known of their entries
+    /// would need no place in memory if the step were inlined, which the kit's build doesn't do.
     #[inline(always)]
     fn takes_sink_by(&mut self, lines: &Lines, at: &At<'_>, it: &Called<'_>) -> Result<bool, Stop>
         ensures same { self.new ≡ record self.old { list = self.new.list; sinks = self.new.sinks; pending = self.new.pending; left_out = self.new.left_out } }
@@ -276,8 +288,8 @@ impl Walk {
         if self.is_plain(lines, at, it) {
             return Ok(false);
         }
-        let (at, it) = (at.copy(), *it);
-        self.meets_sinks(lines, &at, &it)
+        let at = at.copy();
+        self.meets_sinks(lines, &at, it)
     }
 
     /// Whether it is seen at once that a call is what it is without sinks: there are none, and its message is known.
@@ -338,7 +350,7 @@ impl Walk {
             }
             Called::ReceivesMatched(message) => self.waits_for_sink(
                 at,
-                &[Field::Natural(*message)],
+                &[Field::natural(*message)],
             ),
             Called::Waits(requests) => self.waits_for_sink(at, requests),
             Called::Tests(requests) => self.tests_sink(at, requests),

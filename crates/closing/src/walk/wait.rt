@@ -84,7 +84,7 @@ impl Walk {
             LateCall (choice_in self.old.choice) spot (called_view it.now) self.old.list self.old.late.items self.new.late.items) }
     {
         match it {
-            Called::ReceivesMatched(message) => self.waits(at, &[Field::Natural(*message)]),
+            Called::ReceivesMatched(message) => self.waits(at, &[Field::natural(*message)]),
             Called::StartsMatched(request, message) => self.takes_matched(*request, *message),
             Called::Waits(requests) => self.waits(at, requests),
             Called::Tests(requests) => self.tests(at, requests),

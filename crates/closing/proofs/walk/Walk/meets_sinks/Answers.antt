@@ -36,9 +36,10 @@ returns-in-ProbesMatching-clause-takes c = λ spot meets line back.
 
 pub returns-in-ReceivesMatched-clause-takes : goal.returns-in-ReceivesMatched-clause-takes
 returns-in-ReceivesMatched-clause-takes c = λ spot meets line back.
+    let takes = rw c.natural.ensures at c.waits_for_sink.ensures.takes in
     let here = meets_as spot c.args.lines.now c.args.self.now.requests c.args.at.now c.args.it.now _ c.in-ReceivesMatched.is meets in
     called_as spot c.args.at.now.came_back c.args.it.now _ c.waits_for_sink.result c.args.self.now c.waits_for_sink.new.self c.in-ReceivesMatched.is
-    (c.waits_for_sink.ensures.takes spot here.at here.tells here.named)
+    (takes spot here.at here.tells here.named)
 
 pub returns-in-Waits-clause-takes : goal.returns-in-Waits-clause-takes
 returns-in-Waits-clause-takes c = λ spot meets line back.

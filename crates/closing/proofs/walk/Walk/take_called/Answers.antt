@@ -154,14 +154,13 @@ returns-then-entry-clause-entered c = λ said heading handed progress is_call be
     (plain ∙ failed_is said choice placed past failed)))
     (λ some. still)
 
-pub returns-in_err-at-clause-entered : goal.returns-in_err-at-clause-entered
-returns-in_err-at-clause-entered c = λ said heading handed progress is_call before ready.
+pub returns-in_default-at-clause-entered : goal.returns-in_default-at-clause-entered
+returns-in_default-at-clause-entered c = λ said heading handed progress is_call before ready.
     let s = c.args.self.now in
     let e = c.args.entry.now in
     let placed = placed_here s.rank (record { heading = heading; lines = c.args.lines.now }) e.place e.word in
     let choice = choice_in s.choice in
-    is_stopped said choice placed handed progress c.args.run.now.keys c.at.new.run.keys e.reports.end c.at.new.self c.from_residual-in_err-at.result Memory
-    (residual c.from_residual-in_err-at.result Memory c.from_residual-in_err-at.ensures.1)
+    is_stopped said choice placed handed progress c.args.run.now.keys c.at.new.run.keys e.reports.end c.at.new.self (Err Memory) Memory refl
     (memory_entered (outcome_in said choice progress.records placed) handed progress placed.line c.at.new.self.list)
     (λ why found. absurd (cc (found))) (λ some. absurd (some refl))
 
@@ -184,7 +183,7 @@ returns-in_err-is_taken-clause-entered c = λ said heading handed progress is_ca
     let mid = c.takes_sink.new.self in
     let kept = c.at.new.run in
     let spot = spot_of said choice placed in
-    let is_at = c.in_ok-at.ensures.at said heading before same (fit_entry said choice journal s.rank e.place e.word ready.fit before.there call) in
+    let is_at = c.in-Ok.ensures.at said heading before same (fit_entry said choice journal s.rank e.place e.word ready.fit before.there call) in
     let choice_is : choice_in one.choice ≡ choice = ap (λ (it : Walk). choice_in it.choice) c.at.ensures.same in
     let requests_are : one.requests ≡ s.requests = ap (λ (it : Walk). it.requests) c.at.ensures.same in
     let rank_is : one.rank ≡ s.rank = ap (λ (it : Walk). it.rank) c.at.ensures.same in
@@ -195,12 +194,12 @@ returns-in_err-is_taken-clause-entered c = λ said heading handed progress is_ca
     kept_as progress.records s one rank_is (ap (λ (it : Walk). it.sinks) c.at.ensures.same) (ap (λ (it : Walk). it.pending) c.at.ensures.same) (ap (λ (it : Walk). it.left_out) c.at.ensures.same) ready.kept in
     let has : (request : ℕ) → message_for one.requests request ≡ matched_message (take e.place lines) request =
     λ request. ap (λ (it : Standing). message_for it request) requests_are ∙ ready.requests request in
-    let met = meets said choice journal s.rank e.place e.word ready.fit before.there call kept one.requests c.in_ok-at.at it is_at tells has same is_call.requests in
-    let grows = c.in_ok-at.ensures.grows said heading before same in
+    let met = meets said choice journal s.rank e.place e.word ready.fit before.there call kept one.requests c.in-Ok.at it is_at tells has same is_call.requests in
+    let grows = c.in-Ok.ensures.grows said heading before same in
     let all_fit = fits said choice journal s.rank e.place e.word ready.fit before.there call handed progress ready.entries ready.tests in
     let taken : IsTakenBy said choice placed c.takes_sink.result handed progress mid =
-    subst (λ (made : Choice). IsAtEntry said made placed kept c.in_ok-at.at → placed.journal.lines ≡ lines → placed.line ≡ one.line → placed.called ≡ called_view it
-    → breaks_off (is_window said) placed.called ≡ None → has_report report.Failed placed.entry ≡ false → IsBack placed → Meets (spot_of said made placed) lines one.requests c.in_ok-at.at it
+    subst (λ (made : Choice). IsAtEntry said made placed kept c.in-Ok.at → placed.journal.lines ≡ lines → placed.line ≡ one.line → placed.called ≡ called_view it
+    → breaks_off (is_window said) placed.called ≡ None → has_report report.Failed placed.entry ≡ false → IsBack placed → Meets (spot_of said made placed) lines one.requests c.in-Ok.at it
     → AllFit progress placed.line (steps_in (outcome_in said made progress.records placed)) → Stands handed progress one.list → IsKept progress.records one
     → IsTakenBy said made placed c.takes_sink.result handed progress mid) choice_is (c.takes_sink.ensures.taken said placed kept handed progress)
     is_at refl line_is (sym same) broken failed (is_back s.rank journal e.place e.word) met all_fit stands sinks_kept in
@@ -229,7 +228,7 @@ returns-then-is_taken-clause-entered c = λ said heading handed progress is_call
     let mid = c.takes_sink.new.self in
     let kept = c.at.new.run in
     let spot = spot_of said choice placed in
-    let is_at = c.in_ok-at.ensures.at said heading before same (fit_entry said choice journal s.rank e.place e.word ready.fit before.there call) in
+    let is_at = c.in-Ok.ensures.at said heading before same (fit_entry said choice journal s.rank e.place e.word ready.fit before.there call) in
     let choice_is : choice_in one.choice ≡ choice = ap (λ (it : Walk). choice_in it.choice) c.at.ensures.same in
     let requests_are : one.requests ≡ s.requests = ap (λ (it : Walk). it.requests) c.at.ensures.same in
     let rank_is : one.rank ≡ s.rank = ap (λ (it : Walk). it.rank) c.at.ensures.same in
@@ -240,16 +239,16 @@ returns-then-is_taken-clause-entered c = λ said heading handed progress is_call
     kept_as progress.records s one rank_is (ap (λ (it : Walk). it.sinks) c.at.ensures.same) (ap (λ (it : Walk). it.pending) c.at.ensures.same) (ap (λ (it : Walk). it.left_out) c.at.ensures.same) ready.kept in
     let has : (request : ℕ) → message_for one.requests request ≡ matched_message (take e.place lines) request =
     λ request. ap (λ (it : Standing). message_for it request) requests_are ∙ ready.requests request in
-    let met = meets said choice journal s.rank e.place e.word ready.fit before.there call kept one.requests c.in_ok-at.at it is_at tells has same is_call.requests in
-    let grows = c.in_ok-at.ensures.grows said heading before same in
+    let met = meets said choice journal s.rank e.place e.word ready.fit before.there call kept one.requests c.in-Ok.at it is_at tells has same is_call.requests in
+    let grows = c.in-Ok.ensures.grows said heading before same in
     let all_fit = fits said choice journal s.rank e.place e.word ready.fit before.there call handed progress ready.entries ready.tests in
     let taken : IsTakenBy said choice placed c.takes_sink.result handed progress mid =
-    subst (λ (made : Choice). IsAtEntry said made placed kept c.in_ok-at.at → placed.journal.lines ≡ lines → placed.line ≡ one.line → placed.called ≡ called_view it
-    → breaks_off (is_window said) placed.called ≡ None → has_report report.Failed placed.entry ≡ false → IsBack placed → Meets (spot_of said made placed) lines one.requests c.in_ok-at.at it
+    subst (λ (made : Choice). IsAtEntry said made placed kept c.in-Ok.at → placed.journal.lines ≡ lines → placed.line ≡ one.line → placed.called ≡ called_view it
+    → breaks_off (is_window said) placed.called ≡ None → has_report report.Failed placed.entry ≡ false → IsBack placed → Meets (spot_of said made placed) lines one.requests c.in-Ok.at it
     → AllFit progress placed.line (steps_in (outcome_in said made progress.records placed)) → Stands handed progress one.list → IsKept progress.records one
     → IsTakenBy said made placed c.takes_sink.result handed progress mid) choice_is (c.takes_sink.ensures.taken said placed kept handed progress)
     is_at refl line_is (sym same) broken failed (is_back s.rank journal e.place e.word) met all_fit stands sinks_kept in
-    let comms : HasComms kept.keys one.comms (comms_at s.rank lines e.reports.end) = c.in_ok-at.ensures.comms said heading before same in
+    let comms : HasComms kept.keys one.comms (comms_at s.rank lines e.reports.end) = c.in-Ok.ensures.comms said heading before same in
     let taken_is : c.takes_sink.result ≡ Ok true = cc (c.in_ok-is_taken.was, c.if-is_taken.true) in
     let on = subst (λ (r : Result Bool Stop). IsTakenBy said choice placed r handed progress mid) taken_is taken in
     let late_before : map Own one.late.items ≡ progress.late = ap (λ (it : Walk). map Own it.late.items) c.at.ensures.same ∙ ready.late in
@@ -290,7 +289,7 @@ returns-in_err-take-clause-entered c = λ said heading handed progress is_call b
     let mid = c.takes_sink.new.self in
     let kept = c.at.new.run in
     let spot = spot_of said choice placed in
-    let is_at = c.in_ok-at.ensures.at said heading before same (fit_entry said choice journal s.rank e.place e.word ready.fit before.there call) in
+    let is_at = c.in-Ok.ensures.at said heading before same (fit_entry said choice journal s.rank e.place e.word ready.fit before.there call) in
     let choice_is : choice_in one.choice ≡ choice = ap (λ (it : Walk). choice_in it.choice) c.at.ensures.same in
     let requests_are : one.requests ≡ s.requests = ap (λ (it : Walk). it.requests) c.at.ensures.same in
     let rank_is : one.rank ≡ s.rank = ap (λ (it : Walk). it.rank) c.at.ensures.same in
@@ -301,12 +300,12 @@ returns-in_err-take-clause-entered c = λ said heading handed progress is_call b
     kept_as progress.records s one rank_is (ap (λ (it : Walk). it.sinks) c.at.ensures.same) (ap (λ (it : Walk). it.pending) c.at.ensures.same) (ap (λ (it : Walk). it.left_out) c.at.ensures.same) ready.kept in
     let has : (request : ℕ) → message_for one.requests request ≡ matched_message (take e.place lines) request =
     λ request. ap (λ (it : Standing). message_for it request) requests_are ∙ ready.requests request in
-    let met = meets said choice journal s.rank e.place e.word ready.fit before.there call kept one.requests c.in_ok-at.at it is_at tells has same is_call.requests in
-    let grows = c.in_ok-at.ensures.grows said heading before same in
+    let met = meets said choice journal s.rank e.place e.word ready.fit before.there call kept one.requests c.in-Ok.at it is_at tells has same is_call.requests in
+    let grows = c.in-Ok.ensures.grows said heading before same in
     let all_fit = fits said choice journal s.rank e.place e.word ready.fit before.there call handed progress ready.entries ready.tests in
     let taken : IsTakenBy said choice placed c.takes_sink.result handed progress mid =
-    subst (λ (made : Choice). IsAtEntry said made placed kept c.in_ok-at.at → placed.journal.lines ≡ lines → placed.line ≡ one.line → placed.called ≡ called_view it
-    → breaks_off (is_window said) placed.called ≡ None → has_report report.Failed placed.entry ≡ false → IsBack placed → Meets (spot_of said made placed) lines one.requests c.in_ok-at.at it
+    subst (λ (made : Choice). IsAtEntry said made placed kept c.in-Ok.at → placed.journal.lines ≡ lines → placed.line ≡ one.line → placed.called ≡ called_view it
+    → breaks_off (is_window said) placed.called ≡ None → has_report report.Failed placed.entry ≡ false → IsBack placed → Meets (spot_of said made placed) lines one.requests c.in-Ok.at it
     → AllFit progress placed.line (steps_in (outcome_in said made progress.records placed)) → Stands handed progress one.list → IsKept progress.records one
     → IsTakenBy said made placed c.takes_sink.result handed progress mid) choice_is (c.takes_sink.ensures.taken said placed kept handed progress)
     is_at refl line_is (sym same) broken failed (is_back s.rank journal e.place e.word) met all_fit stands sinks_kept in
@@ -317,7 +316,7 @@ returns-in_err-take-clause-entered c = λ said heading handed progress is_call b
     let rank_mid : mid.rank ≡ s.rank = ap (λ (it : Walk). it.rank) c.takes_sink.ensures.same ∙ rank_is in
     let requests_mid : mid.requests ≡ one.requests = ap (λ (it : Walk). it.requests) c.takes_sink.ensures.same in
     let choice_mid : choice_in mid.choice ≡ choice = ap (λ (it : Walk). choice_in it.choice) c.takes_sink.ensures.same ∙ choice_is in
-    let met_mid : Meets spot lines mid.requests c.in_ok-at.at it = subst (λ (standing : Standing). Meets spot lines standing c.in_ok-at.at it) (sym requests_mid) met in
+    let met_mid : Meets spot lines mid.requests c.in-Ok.at it = subst (λ (standing : Standing). Meets spot lines standing c.in-Ok.at it) (sym requests_mid) met in
     let has_mid : (request : ℕ) → message_for mid.requests request ≡ matched_message (take e.place lines) request =
     λ request. ap (λ (it : Standing). message_for it request) requests_mid ∙ has request in
     let plain : IsPlain said choice placed handed progress mid two = record {
@@ -330,9 +329,9 @@ returns-in_err-take-clause-entered c = λ said heading handed progress is_call b
       left_out = ap (λ (it : Walk). it.left_out) c.take.ensures.same;
     } in
     let plain_is = plain_outcome said choice placed handed progress mid two plain in
-    let may : MayMake spot kept mid.rank c.in_ok-at.at it =
-    subst (λ (rank : ℕ). MayMake spot kept rank c.in_ok-at.at it) (sym rank_mid)
-    (makes said choice journal s.rank e.place e.word ready.fit before.there call kept c.in_ok-at.at it is_at same) in
+    let may : MayMake spot kept mid.rank c.in-Ok.at it =
+    subst (λ (rank : ℕ). MayMake spot kept rank c.in-Ok.at it) (sym rank_mid)
+    (makes said choice journal s.rank e.place e.word ready.fit before.there call kept c.in-Ok.at it is_at same) in
     let takes : TakesCall {A = Unit {0}} choice spot (called_view it) c.take.result mid.list two.list =
     subst (λ (made : Choice). TakesCall {A = Unit {0}} made spot (called_view it) c.take.result mid.list two.list) choice_mid (c.take.ensures.takes spot met_mid may) in
     let list = follows said choice journal s.rank e.place e.word ready.fit before.there call handed progress ready.entries ready.tests (Unit {0}) it c.take.result mid.list two.list
@@ -366,7 +365,7 @@ returns-clause-entered c = λ said heading handed progress is_call before ready.
     let mid = c.takes_sink.new.self in
     let kept = c.at.new.run in
     let spot = spot_of said choice placed in
-    let is_at = c.in_ok-at.ensures.at said heading before same (fit_entry said choice journal s.rank e.place e.word ready.fit before.there call) in
+    let is_at = c.in-Ok.ensures.at said heading before same (fit_entry said choice journal s.rank e.place e.word ready.fit before.there call) in
     let choice_is : choice_in one.choice ≡ choice = ap (λ (it : Walk). choice_in it.choice) c.at.ensures.same in
     let requests_are : one.requests ≡ s.requests = ap (λ (it : Walk). it.requests) c.at.ensures.same in
     let rank_is : one.rank ≡ s.rank = ap (λ (it : Walk). it.rank) c.at.ensures.same in
@@ -377,12 +376,12 @@ returns-clause-entered c = λ said heading handed progress is_call before ready.
     kept_as progress.records s one rank_is (ap (λ (it : Walk). it.sinks) c.at.ensures.same) (ap (λ (it : Walk). it.pending) c.at.ensures.same) (ap (λ (it : Walk). it.left_out) c.at.ensures.same) ready.kept in
     let has : (request : ℕ) → message_for one.requests request ≡ matched_message (take e.place lines) request =
     λ request. ap (λ (it : Standing). message_for it request) requests_are ∙ ready.requests request in
-    let met = meets said choice journal s.rank e.place e.word ready.fit before.there call kept one.requests c.in_ok-at.at it is_at tells has same is_call.requests in
-    let grows = c.in_ok-at.ensures.grows said heading before same in
+    let met = meets said choice journal s.rank e.place e.word ready.fit before.there call kept one.requests c.in-Ok.at it is_at tells has same is_call.requests in
+    let grows = c.in-Ok.ensures.grows said heading before same in
     let all_fit = fits said choice journal s.rank e.place e.word ready.fit before.there call handed progress ready.entries ready.tests in
     let taken : IsTakenBy said choice placed c.takes_sink.result handed progress mid =
-    subst (λ (made : Choice). IsAtEntry said made placed kept c.in_ok-at.at → placed.journal.lines ≡ lines → placed.line ≡ one.line → placed.called ≡ called_view it
-    → breaks_off (is_window said) placed.called ≡ None → has_report report.Failed placed.entry ≡ false → IsBack placed → Meets (spot_of said made placed) lines one.requests c.in_ok-at.at it
+    subst (λ (made : Choice). IsAtEntry said made placed kept c.in-Ok.at → placed.journal.lines ≡ lines → placed.line ≡ one.line → placed.called ≡ called_view it
+    → breaks_off (is_window said) placed.called ≡ None → has_report report.Failed placed.entry ≡ false → IsBack placed → Meets (spot_of said made placed) lines one.requests c.in-Ok.at it
     → AllFit progress placed.line (steps_in (outcome_in said made progress.records placed)) → Stands handed progress one.list → IsKept progress.records one
     → IsTakenBy said made placed c.takes_sink.result handed progress mid) choice_is (c.takes_sink.ensures.taken said placed kept handed progress)
     is_at refl line_is (sym same) broken failed (is_back s.rank journal e.place e.word) met all_fit stands sinks_kept in
@@ -393,7 +392,7 @@ returns-clause-entered c = λ said heading handed progress is_call before ready.
     let rank_mid : mid.rank ≡ s.rank = ap (λ (it : Walk). it.rank) c.takes_sink.ensures.same ∙ rank_is in
     let requests_mid : mid.requests ≡ one.requests = ap (λ (it : Walk). it.requests) c.takes_sink.ensures.same in
     let choice_mid : choice_in mid.choice ≡ choice = ap (λ (it : Walk). choice_in it.choice) c.takes_sink.ensures.same ∙ choice_is in
-    let met_mid : Meets spot lines mid.requests c.in_ok-at.at it = subst (λ (standing : Standing). Meets spot lines standing c.in_ok-at.at it) (sym requests_mid) met in
+    let met_mid : Meets spot lines mid.requests c.in-Ok.at it = subst (λ (standing : Standing). Meets spot lines standing c.in-Ok.at it) (sym requests_mid) met in
     let has_mid : (request : ℕ) → message_for mid.requests request ≡ matched_message (take e.place lines) request =
     λ request. ap (λ (it : Standing). message_for it request) requests_mid ∙ has request in
     let plain : IsPlain said choice placed handed progress mid two = record {
@@ -406,14 +405,14 @@ returns-clause-entered c = λ said heading handed progress is_call before ready.
       left_out = ap (λ (it : Walk). it.left_out) c.take.ensures.same;
     } in
     let plain_is = plain_outcome said choice placed handed progress mid two plain in
-    let may : MayMake spot kept mid.rank c.in_ok-at.at it =
-    subst (λ (rank : ℕ). MayMake spot kept rank c.in_ok-at.at it) (sym rank_mid)
-    (makes said choice journal s.rank e.place e.word ready.fit before.there call kept c.in_ok-at.at it is_at same) in
+    let may : MayMake spot kept mid.rank c.in-Ok.at it =
+    subst (λ (rank : ℕ). MayMake spot kept rank c.in-Ok.at it) (sym rank_mid)
+    (makes said choice journal s.rank e.place e.word ready.fit before.there call kept c.in-Ok.at it is_at same) in
     let takes : TakesCall {A = Unit {0}} choice spot (called_view it) c.take.result mid.list two.list =
     subst (λ (made : Choice). TakesCall {A = Unit {0}} made spot (called_view it) c.take.result mid.list two.list) choice_mid (c.take.ensures.takes spot met_mid may) in
     let list = follows said choice journal s.rank e.place e.word ready.fit before.there call handed progress ready.entries ready.tests (Unit {0}) it c.take.result mid.list two.list
     past failed same plain_is not_taken.stands takes in
-    let comms : HasComms kept.keys one.comms (comms_at s.rank lines e.reports.end) = c.in_ok-at.ensures.comms said heading before same in
+    let comms : HasComms kept.keys one.comms (comms_at s.rank lines e.reports.end) = c.in-Ok.ensures.comms said heading before same in
     let late_before : map Own mid.late.items ≡ progress.late =
     ap (λ (it : Walk). map Own it.late.items) c.takes_sink.ensures.same ∙ ap (λ (it : Walk). map Own it.late.items) c.at.ensures.same ∙ ready.late in
     let late : LateCall choice spot (called_view it) mid.list mid.late.items two.late.items =

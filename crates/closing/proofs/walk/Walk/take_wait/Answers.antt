@@ -8,9 +8,10 @@ use Rattle.closing.proofs.walk.Walk.take_wait.Goals as goal
 
 pub returns-in-ReceivesMatched-clause-takes : goal.returns-in-ReceivesMatched-clause-takes
 returns-in-ReceivesMatched-clause-takes c = λ spot alone meets.
+    let takes = rw c.natural.ensures at c.waits.ensures.takes in
     let here = meets_as spot c.args.lines.now c.args.self.now.requests c.args.at.now c.args.it.now _ c.in-ReceivesMatched.is meets in
     takes_as (choice_in c.args.self.now.choice) spot c.args.it.now _ c.waits.result c.args.self.now.list c.waits.new.self.list c.in-ReceivesMatched.is
-    (c.waits.ensures.takes spot here.at here.tells here.named)
+    (takes spot here.at here.tells here.named)
 
 pub returns-in-ReceivesMatched-clause-late : goal.returns-in-ReceivesMatched-clause-late
 returns-in-ReceivesMatched-clause-late c = on_ok _ c.waits.result (λ spot alone meets.
