@@ -48,7 +48,10 @@ fn may_be(field: Field, number: u32) -> bool
 {
     match field {
         Field::Any => true,
-        Field::Signed(other) => 0 <= other && other as u32 == number,
+        Field::Signed(other) => {
+            let other = other.get();
+            0 <= other && other as u32 == number
+        }
         _ => false,
     }
 }
