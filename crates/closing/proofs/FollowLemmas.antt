@@ -17,6 +17,10 @@ use Rattle.closing.specs.Called.{Sent, Awaited}
 use Rattle.closing.specs.Entry.{send, start_send, receive, start_receive}
 use Rattle.closing.specs.Endings.{sent_can_be, awaited_can_be}
 use Rattle.closing.specs.Reported.{Message as Said, message_of, message_can_be, tag_can_be}
+use Rattle.closing.specs.Sinks.{is_nobody, wanted_by}
+use Rattle.closing.specs.inner.Sunk.{wants_in, with_known}
+use Rattle.closing.specs.declared.walk.sinks.Wants.{Wants}
+use Rattle.closing.specs.declared.pending.Wanted.{Wanted}
 use Rattle.closing.specs.inner.Walks.{Spot, numbered, known_or_ends, does_at, sends_on}
 use Rattle.closing.specs.inner.Walked.{AwaitedOr, IsAt, Takes, number_or, known_or, number_at, size_at}
 use Rattle.journals.specs.declared.field.Field.{Field}
@@ -256,3 +260,15 @@ awaited_goes {B} spot at awaited f comm message result old new is h t =
 
 abbrev pub receives_at : Spot → ℕ → Said → List Step
 receives_at spot comm it = does_at spot (receive comm it) (start_receive comm it)
+
+-- what a receive or probe wants whose message was reported
+mapped : (b : Bool) (wanted : Wanted) → option_map (with_known true) (if b then None else Some wanted) ≡ (if b then None else Some (with_known true wanted))
+mapped true wanted = refl
+mapped false wanted = refl
+
+pub some_wants : (size comm : ℕ) (awaited : Awaited) (it : Said) (result : Option Wants) → size ≤ 1024 → is_nobody awaited.source ≡ false → (peer_can_be size awaited.source && (tag_can_be awaited.tag && message_can_be size (Some it))) ≡ true → (IsTrue (peer_can_be 1024 it.source) → IsTrue (tag_can_be it.tag) → result ≡ (if is_nobody it.source then None else Some (with_known true (wanted_by comm awaited (Some it))))) → result ≡ option_map (with_known true) (wants_in size (Some comm) awaited (Some it))
+some_wants size comm awaited it result small someone can wants =
+    let said = both_right (tag_can_be awaited.tag) (message_can_be size (Some it)) (both_right (peer_can_be size awaited.source) (tag_can_be awaited.tag && message_can_be size (Some it)) can) in
+    let source = peer_up size it.source small (both_left (peer_can_be size it.source) (tag_can_be it.tag) said) in
+    let tag = to_true (tag_can_be it.tag) (both_right (peer_can_be size it.source) (tag_can_be it.tag) said) in
+    rw (someone, can) (wants source tag ∙ sym (mapped (is_nobody it.source) (wanted_by comm awaited (Some it))))
