@@ -288,8 +288,7 @@ impl Walk {
         if self.is_plain(lines, at, it) {
             return Ok(false);
         }
-        let at = at.copy();
-        self.meets_sinks(lines, &at, it)
+        self.meets_sinks(lines, at, it)
     }
 
     /// Whether it is seen at once that a call is what it is without sinks: there are none, and its message is known.
