@@ -71,25 +71,6 @@ enum Fate {
     Ends(Why),
 }
 
-impl<'a> At<'a> {
-    /// A copy, part by part: where a call that is seldom gets it, the other ways need no place in memory for it, if the
-    /// step is inlined; the kit's build doesn't inline it.
-    #[inline(always)]
-    fn copy(&self) -> At<'a>
-        ensures { result ≡ self.now }
-    {
-        At {
-            named: self.named,
-            wave: self.wave,
-            made: self.made,
-            came_back: self.came_back,
-            is_past: self.is_past,
-            got: self.got,
-            chose: self.chose,
-        }
-    }
-}
-
 /// A rank of a group; None for a wildcard.
 fn source_of(field: Field) -> Option<u16>
     ensures { IsTrue (peer_can_be 1024 field) → result ≡ number_of field }
@@ -276,8 +257,7 @@ impl Walk {
         }
     }
 
-    /// Does what `takes_sink` does, where receives may be sinks. Most calls are plain: what is known of their entries
-    /// would need no place in memory if the step were inlined, which the kit's build doesn't do.
+    /// Does what `takes_sink` does, where receives may be sinks. Most calls are plain.
     #[inline(always)]
     fn takes_sink_by(&mut self, lines: &Lines, at: &At<'_>, it: &Called<'_>) -> Result<bool, Stop>
         ensures same { self.new ≡ record self.old { list = self.new.list; sinks = self.new.sinks; pending = self.new.pending; left_out = self.new.left_out } }
