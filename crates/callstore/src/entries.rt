@@ -20,6 +20,9 @@ use std::mem::size_of;
 /// So many calls fill a block.
 const SLOTS_A_BLOCK: usize = 5462;
 
+/// So many pairs fill a block, which has pages of its own: room that isn't written takes no memory, also once it grows.
+const PAIRS_A_BLOCK: usize = 16_384;
+
 /// A call, and the mark of what is kept with it.
 #[derive(Clone, Copy)]
 pub(crate) struct Slot {
@@ -134,8 +137,8 @@ impl Entries {
     {
         make_room(&mut self.slots, SLOTS_A_BLOCK)?;
         if self.pairs.capacity() < self.slots.capacity() {
-            self.pairs
-                .reserve(self.slots.capacity() - self.pairs.len())?;
+            let lacking = self.slots.capacity() - self.pairs.len();
+            self.pairs.reserve(lacking.max(PAIRS_A_BLOCK))?;
         }
         Ok(())
     }
