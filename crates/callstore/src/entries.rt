@@ -20,8 +20,9 @@ use std::mem::size_of;
 /// So many calls fill a block.
 const SLOTS_A_BLOCK: usize = 5462;
 
-/// So many pairs fill a block, which has pages of its own: room that isn't written takes no memory, also once it grows.
-const PAIRS_A_BLOCK: usize = 16_384;
+/// So many pairs fill a block of 320 KB. The C library gives that pages of its own, so room that isn't written takes no
+/// memory, also once it grows; a smaller block may be cut from what it has at hand, and is copied then.
+const PAIRS_A_BLOCK: usize = 40_960;
 
 /// A call, and the mark of what is kept with it.
 #[derive(Clone, Copy)]

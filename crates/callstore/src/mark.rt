@@ -155,10 +155,10 @@ impl Mark {
 
     /// The place of a half's partner.
     #[inline(always)]
-    pub(crate) fn partner(self, half: Half, pairs: &[Pair], index: usize) -> Option<u32>
-        ensures { result ≡ partner_in half (kept_by self (pair_at pairs.now index)) }
+    pub(crate) fn partner(&self, half: Half, pairs: &[Pair], index: usize) -> Option<u32>
+        ensures { result ≡ partner_in half (kept_by self.now (pair_at pairs.now index)) }
     {
-        match (half, self) {
+        match (half, *self) {
             (Half::Send, Mark::Sent { high, low }) | (Half::Recv, Mark::Received { high, low }) => {
                 Some(joined(high, low))
             }
@@ -171,8 +171,8 @@ impl Mark {
 
     /// The place of a half's partner, whatever is kept with the call.
     #[inline(never)]
-    fn partner_apart(self, half: Half, pairs: &[Pair], index: usize) -> Option<u32>
-        ensures { result ≡ partner_in half (kept_by self (pair_at pairs.now index)) }
+    fn partner_apart(&self, half: Half, pairs: &[Pair], index: usize) -> Option<u32>
+        ensures { result ≡ partner_in half (kept_by self.now (pair_at pairs.now index)) }
     {
         self.kept(pairs, index).partner(half)
     }

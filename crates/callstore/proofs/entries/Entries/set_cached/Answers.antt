@@ -1,13 +1,11 @@
-use Rattle.std.proofs.Common.{◌≡◌, ◌∙◌, ◌<◌, ℕ, Some, List, ap, length, refl, sym, set, arith}
-use Rattle.std.specs.Option.{option_map}
+use Rattle.std.proofs.Common.{◌≡◌, ◌∙◌, ◌<◌, Some, List, ap, length, refl, sym, set, arith}
 use Rattle.std.specs.List.{slice_get}
 use Rattle.std.proofs.lemmas.Option.{slice_get_read}
 use Rattle.callstore.specs.declared.entries.Entries.TheInside.{Inside}
 use Rattle.callstore.specs.declared.cached_match.CachedMatch.{CachedMatch}
 use Rattle.callstore.specs.declared.entries.Slot.{Slot}
-use Rattle.callstore.specs.declared.mark.Pair.{Pair}
 use Rattle.callstore.specs.inner.Entries.{Entry, EntryList, entries_of, entry_of}
-use Rattle.callstore.specs.inner.Marks.{pair_at, pair_of}
+use Rattle.callstore.specs.inner.Marks.{pair_of}
 use Rattle.callstore.proofs.EntryLemmas.{as_many, same_call, set_both, set_alone, entry_near}
 use Rattle.callstore.proofs.entries.Entries.set_cached.Goals as goal
 use Rattle.callstore.proofs.entries.Entries.set_cached.Goals.{then-is_apart, else-is_apart}

@@ -3,7 +3,7 @@ use Rattle.std.specs.List.{slice_get}
 use Rattle.callstore.specs.CachedMatch.{with_partner}
 use Rattle.callstore.specs.declared.cached_match.CachedMatch.{CachedMatch}
 use Rattle.callstore.specs.declared.cached_match.CachedMatch.TheVariants.{Nothing}
-use Rattle.callstore.specs.Notes.{Noted, partnered_in}
+use Rattle.callstore.specs.Notes.{partnered_in}
 use Rattle.callstore.specs.inner.Entries.{Entry, entry_at}
 use Rattle.callstore.specs.inner.Marks.{pair_at}
 use Rattle.callstore.specs.inner.Notes.{NotedList}
