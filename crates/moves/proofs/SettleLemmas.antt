@@ -477,17 +477,29 @@ kept_taken reading groups recording s progress w new rank h first lists spare wo
       in_none = it.in_none;
     }
 
-less_to_do : (a b m l : ℕ) → a < b → l ≤ m → (k : ℕ) → (b - suc a) * (m + 1) + l < (b - a) * (m + 1) + k
-less_to_do a b m l less most k =
-    let next : b - a ≡ suc (b - suc a) = omega (arith, less) in
-    rw next (omega (arith, most, suc-mul (b - suc a) (m + 1)))
+more_times : (a b m : ℕ) → a ≤ b → a * m ≤ b * m
+more_times zero b m h = omega arith
+more_times (suc a) zero m h = absurd (omega (arith, h))
+more_times (suc a) (suc b) m h = omega (arith, more_times a b m (omega (arith, h)), suc-mul a m, suc-mul b m)
 
-pub moved_falls : (reading : Reading) (groups : Groups) (recording : Lists) (s t : State) (new : Progress) (w last : WaitLists) (rank : ℕ) → IsInHand reading groups recording t new last rank → rank < length s → t ≡ moved s rank → to_do recording t last < to_do recording s w
-moved_falls reading groups recording s t new w last rank h is_rank is =
-    let within = reached_within reading groups recording t h.kept.is_reached in
+-- once a rank has moved on, one call less is left
+pub left_falls : (reading : Reading) (groups : Groups) (recording : Lists) (s t : State) (progress : Progress) (w : WaitLists) (rank place : ℕ) → IsReaching reading groups recording t progress w rank place → rank < length s → t ≡ moved s rank → call_count recording - total t < call_count recording - total s
+left_falls reading groups recording s t progress w rank place h is_rank is =
+    let within = reached_within reading groups recording t h.is_reached in
     let total_t : total t ≡ suc (total s) = ap total is ∙ total_moved s rank is_rank ∙ omega arith in
-    let most = total_most t _ within.ranks within.stands in
-    rw total_t (less_to_do (total s) (call_count recording) (length recording) (length (list_at last.lists 0)) (omega (arith, most, total_t)) (omega (arith, most_linked last.lists 0, h.kept.has_lists.nodes)) (length (list_at w.lists 0)))
+    omega (arith, total_most t _ within.ranks within.stands, total_t)
+
+-- once a rank has settled that had just come to its call, each rank may be to be looked at; no more is left to do than
+-- before where it was in hand and moved on
+pub left_kept : (reading : Reading) (groups : Groups) (recording : Lists) (s t : State) (progress : Progress) (w last : WaitLists) → HoldsBetweenLooks reading groups recording t progress last IsNobody 0 → call_count recording - total t ≤ call_count recording - total s → to_do recording t last ≤ to_do recording s w + length recording
+left_kept reading groups recording s t progress w last h less =
+    let times = more_times (call_count recording - total t) (call_count recording - total s) (length recording + 1) less in
+    omega (arith, times, most_linked last.lists 0, h.has_lists.nodes)
+
+pub left_fewer : (reading : Reading) (groups : Groups) (recording : Lists) (s t : State) (progress : Progress) (w last : WaitLists) → HoldsBetweenLooks reading groups recording t progress last IsNobody 0 → call_count recording - total t < call_count recording - total s → to_do recording t last ≤ to_do recording s w
+left_fewer reading groups recording s t progress w last h less =
+    let times = more_times (suc (call_count recording - total t)) (call_count recording - total s) (length recording + 1) less in
+    omega (arith, times, suc-mul (call_count recording - total t) (length recording + 1), most_linked last.lists 0, h.has_lists.nodes)
 
 -- no rank can move once none is to be looked at
 pub settled_end : (reading : Reading) (groups : Groups) (recording : Lists) (s : State) (progress : Progress) (w : WaitLists) → IsSettled reading groups recording s progress w → IsTheEnd (can_move reading groups recording) (length recording) s

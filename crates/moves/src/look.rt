@@ -4,9 +4,10 @@
 //! A call that its rank hasn't reached meets no need of anybody, so no look follows it. A look at a wave
 //! compares two numbers: how many waves of the communicator are complete, and the number of the wave.
 
-ghost use Rattle.std.specs.Prelude.{◌≡◌, ◌<◌, slice_index, option_to_list, IfSome};
+ghost use Rattle.std.specs.Prelude.{◌≡◌, ◌<◌, slice_get, slice_index, option_to_list, IfSome};
 ghost use Rattle.std.specs.List.{list_all};
 ghost use Rattle.callstore.specs.Limits.{most_calls};
+ghost use Rattle.callstore.specs.Recordings.{calls_of};
 ghost use Rattle.moves.specs.Needs.{is_met};
 ghost use Rattle.pairing.specs.Seen.{call_seen};
 ghost use Rattle.moves.specs.inner.Waiting.{message_needs};
@@ -71,15 +72,17 @@ fn look_at_operation(world: &World, positions: &Positions, at: At, call: &CallAt
     }
 }
 
-/// Looks at the operation of any call at the place: the slow way, for calls that come seldom.
+/// Looks at the operation of any call at the place: the slow way, for calls that come seldom. It looks the call up again, so
+/// that the fast way needs no place in memory for what it looked up.
 #[inline(never)]
-fn look_at_any_operation(world: &World, positions: &Positions, at: At, call: &CallAt<'_>) -> Look
-    requires waves { KnowWaves world.now positions.now }
-    requires call { IsCallAt world.now at (call_seen call.now) }
-    requires seen { IsSeenAt world.now at call.now }
+fn look_at_any_operation(world: &World, positions: &Positions, at: At) -> Look
+    requires { KnowWaves world.now positions.now }
     ensures { OperationTells world.now positions.now at result }
 {
-    look_at_operation(world, positions, at, call)
+    match world.pairs.at(at.0, at.1) {
+        Some(call) => look_at_operation(world, positions, at, &call),
+        None => Look::Moves,
+    }
 }
 
 /// Looks at the operation of a call of this kind at the place. There is one such function for each kind that
@@ -98,7 +101,7 @@ fn look_at_operation_of<const KIND: u8>(
     if call.call().hot_kind() == KIND {
         look_at_operation(world, positions, at, call)
     } else {
-        look_at_any_operation(world, positions, at, call)
+        look_at_any_operation(world, positions, at)
     }
 }
 
@@ -113,7 +116,7 @@ fn look_at_started(world: &World, positions: &Positions, at: At, call: &CallAt<'
     match call.call().hot_kind() {
         ISEND => look_at_operation_of::<ISEND>(world, positions, at, call),
         IRECV => look_at_operation_of::<IRECV>(world, positions, at, call),
-        _ => look_at_any_operation(world, positions, at, call),
+        _ => look_at_any_operation(world, positions, at),
     }
 }
 
@@ -164,19 +167,21 @@ fn look_at_requests(world: &World, positions: &Positions, at: At, call: &CallAt<
     Look::Moves
 }
 
-/// Looks at any call at the place: the slow way. A call that starts a request needs nothing.
+/// Looks at any call at the place that doesn't end its list: the slow way, which looks the call up again. A call that starts
+/// a request needs nothing.
 #[inline(never)]
-fn look_at_any_call(world: &World, positions: &Positions, at: At, call: &CallAt<'_>) -> Look
-    requires waves { KnowWaves world.now positions.now }
-    requires call { IsCallAt world.now at (call_seen call.now) }
-    requires seen { IsSeenAt world.now at call.now }
-    ensures { CallTells world.now positions.now at (call_seen call.now) result }
+fn look_at_any_call(world: &World, positions: &Positions, at: At) -> Look
+    requires { KnowWaves world.now positions.now }
+    ensures { IfSome (slice_get (calls_of world.now.pairs.recording at.0) at.1) (λ call. CallTells world.now positions.now at call result) }
 {
+    let Some(call) = world.pairs.at(at.0, at.1) else {
+        return Look::Over;
+    };
     if call.call().starts().is_some() {
         return Look::Moves;
     }
-    match look_at_any_operation(world, positions, at, call) {
-        Look::Moves => look_at_requests(world, positions, at, call),
+    match look_at_operation(world, positions, at, &call) {
+        Look::Moves => look_at_requests(world, positions, at, &call),
         look => look,
     }
 }
@@ -195,7 +200,7 @@ fn look_at_call_of<const KIND: u8>(
     ensures { CallTells world.now positions.now at (call_seen call.now) result }
 {
     if call.call().hot_kind() != KIND {
-        return look_at_any_call(world, positions, at, call);
+        return look_at_any_call(world, positions, at);
     }
     if call.call().starts().is_some() {
         return Look::Moves;
@@ -222,7 +227,7 @@ fn look_at_call(world: &World, positions: &Positions, at: At, call: &CallAt<'_>)
         COLL => look_at_call_of::<COLL>(world, positions, at, call),
         WAIT => look_at_call_of::<WAIT>(world, positions, at, call),
         WAITALL => look_at_call_of::<WAITALL>(world, positions, at, call),
-        _ => look_at_any_call(world, positions, at, call),
+        _ => look_at_any_call(world, positions, at),
     }
 }
 
@@ -246,16 +251,4 @@ pub(crate) fn look_at_place(
         Some(call) if !call.call().ends_list() => look_at_call(world, positions, at, call),
         _ => Look::Over,
     }
-}
-
-/// Looks at a rank where it stands.
-#[inline(always)]
-pub(crate) fn look_at(world: &World, positions: &Positions, rank: u16) -> Look
-    requires { KnowWaves world.now positions.now }
-    ensures tells { RankTells world.now positions.now rank result }
-    ensures room { result ≡ Look.Moves → slice_index positions.now.stands.items rank < most_calls }
-{
-    let stand = positions.stand(rank);
-    let call = &world.pairs.at(rank, stand);
-    look_at_place(world, positions, (rank, stand), call)
 }

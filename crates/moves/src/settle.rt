@@ -1,10 +1,10 @@
 //! Ranks that move on until none can, by looks at those alone that something woke.
 //!
-//! A rank that is taken off the worklist moves on until it waits. That the loop within the loop ends is
-//! shown by one number: the calls that are not passed, times one more than the ranks, plus the length of
-//! the worklist.
+//! A rank that is taken off the worklist moves on until it waits: one call less is left each time. That the loop
+//! around it ends is shown by one number: the calls that are not passed, times one more than the ranks, plus the
+//! length of the worklist.
 
-ghost use Rattle.std.specs.Prelude.{◌≡◌, ◌≢◌, ◌<◌, ◌≤◌, false, None, length, slice_index, option_and_then, IfSome};
+ghost use Rattle.std.specs.Prelude.{◌≡◌, ◌≢◌, ◌+◌, ◌<◌, ◌≤◌, true, false, None, length, slice_index, option_and_then, IfSome};
 ghost use Rattle.callstore.specs.Envelopes.{message_of};
 ghost use Rattle.callstore.specs.Limits.{most_calls};
 ghost use Rattle.pairing.specs.Seen.{call_seen, wave_seen};
@@ -12,9 +12,9 @@ ghost use Rattle.moves.specs.Worlds.{IsSeenAt};
 ghost use Rattle.callstore.specs.declared.envelope.Half.TheVariants.{Send as SendHalf, Recv as RecvHalf};
 ghost use Rattle.moves.specs.Runs.{moved};
 ghost use Rattle.moves.specs.inner.Waiting.{comm_list, sent_to, sees, prober_of, woken_partner, woken_prober, woken_peers, woken_comm};
-ghost use Rattle.moves.specs.inner.Positions.{IsCallAt, IsCallIf, IsSeenIf, AreKept, AreReached, AreSettled, GoOn, HaveArrival, HaveInHand, HaveWoken, RankTells, left_to_do};
+ghost use Rattle.moves.specs.inner.Positions.{IsCallAt, IsCallIf, IsSeenIf, AreKept, AreReached, AreSettled, GoOn, HaveArrival, HaveInHand, HaveWoken, RankTells, calls_left, left_to_do, ranks_once};
 
-use crate::look::{Look, look_at, look_at_place};
+use crate::look::{Look, look_at_place};
 use crate::need::At;
 use crate::waiters::Waiters;
 use crate::world::{Positions, World};
@@ -168,17 +168,6 @@ fn reach_call(world: &World, positions: &mut Positions, at: At, call: &Option<Ca
     wake_members(&mut positions.waiters, complete);
 }
 
-/// Wakes all that wait for any call at the place: the slow way, for calls that come seldom.
-#[inline(never)]
-fn reach_any(world: &World, positions: &mut Positions, at: At, call: &Option<CallAt<'_>>)
-    requires reached { AreReached world.now positions.old at.0 at.1 }
-    requires call { IsCallIf world.now at call.now }
-    requires seen { IsSeenIf world.now at call.now }
-    ensures { HaveWoken world.now positions.old positions.new at.0 }
-{
-    reach_call(world, positions, at, call);
-}
-
 /// The number of the call's kind; `NONE` where there is no call.
 #[inline(always)]
 fn kind_of(call: &Option<CallAt<'_>>) -> u8 {
@@ -186,6 +175,17 @@ fn kind_of(call: &Option<CallAt<'_>>) -> u8 {
         Some(call) => call.call().hot_kind(),
         None => NONE,
     }
+}
+
+/// Wakes all that wait for any call at the place: the slow way, for calls that come seldom. It looks the call up again, so
+/// that the fast way needs no place in memory for what it looked up.
+#[inline(never)]
+fn reach_any(world: &World, positions: &mut Positions, at: At)
+    requires { AreReached world.now positions.old at.0 at.1 }
+    ensures { HaveWoken world.now positions.old positions.new at.0 }
+{
+    let call = &world.pairs.at(at.0, at.1);
+    reach_call(world, positions, at, call);
 }
 
 /// Wakes all that wait for a call of this kind at the place. There is one such function for each kind that comes often,
@@ -204,7 +204,7 @@ fn reach_of<const KIND: u8>(
     if kind_of(call) == KIND {
         reach_call(world, positions, at, call);
     } else {
-        reach_any(world, positions, at, call);
+        reach_any(world, positions, at);
     }
 }
 
@@ -221,41 +221,29 @@ fn reach(world: &World, positions: &mut Positions, at: At, call: &Option<CallAt<
         Some(_) => by_kind!(
             kind_of(call),
             reach_of(world, positions, at, call),
-            _ => reach_any(world, positions, at, call)
+            _ => reach_any(world, positions, at)
         ),
         None => reach_call(world, positions, at, call),
     }
 }
 
-/// Wakes all that wait for the rank's call at the place, to which the rank has just come, and looks at the rank there.
+/// Looks at the rank in hand, at its call at the place. Where it has just come there, those that wait for that call are
+/// woken first.
 #[inline(always)]
-fn come_to(world: &World, positions: &mut Positions, rank: u16, place: u32) -> Look
-    requires { AreReached world.now positions.old rank place }
-    ensures woken { HaveWoken world.now positions.old positions.new rank }
-    ensures tells { RankTells world.now positions.new rank result }
-    ensures room { result ≡ Look.Moves → slice_index positions.new.stands.items rank < most_calls }
+fn look_there(world: &World, positions: &mut Positions, at: At, has_come: bool) -> Look
+    requires come { has_come ≡ true → AreReached world.now positions.old at.0 at.1 }
+    requires in_hand { has_come ≡ false → HaveInHand world.now positions.old at.0 }
+    requires is_there { at.1 ≡ slice_index positions.old.stands.items at.0 }
+    ensures woken { HaveWoken world.now positions.old positions.new at.0 }
+    ensures same { has_come ≡ false → positions.new ≡ positions.old }
+    ensures tells { RankTells world.now positions.new at.0 result }
+    ensures room { result ≡ Look.Moves → slice_index positions.new.stands.items at.0 < most_calls }
 {
-    let at = (rank, place);
-    let call = &world.pairs.at(rank, place);
-    reach(world, positions, at, call);
+    let call = &world.pairs.at(at.0, at.1);
+    if has_come {
+        reach(world, positions, at, call);
+    }
     look_at_place(world, positions, at, call)
-}
-
-/// Moves the rank in hand on by one, and looks at it there.
-#[inline(always)]
-fn step(world: &World, positions: &mut Positions, rank: u16) -> Look
-    requires in_hand { HaveInHand world.now positions.old rank }
-    requires moves { RankTells world.now positions.old rank Look.Moves }
-    requires room { slice_index positions.old.stands.items rank < most_calls }
-    ensures in_hand { HaveInHand world.now positions.new rank }
-    ensures tells { RankTells world.now positions.new rank result }
-    ensures room { result ≡ Look.Moves → slice_index positions.new.stands.items rank < most_calls }
-    ensures goes_on { GoOn positions.old positions.new }
-    ensures falls { left_to_do world.now positions.new < left_to_do world.now positions.old }
-{
-    move_on(&mut positions.stands, rank);
-    let place = positions.stand(rank);
-    come_to(world, positions, rank, place)
 }
 
 /// Lets the rank in hand go, which can't move on: it is linked where it waits, unless it rests.
@@ -266,6 +254,7 @@ fn let_go(world: &World, positions: &mut Positions, rank: u16, look: Look)
     requires stays { look ≢ Look.Moves }
     ensures kept { AreKept world.now positions.new }
     ensures goes_on { GoOn positions.old positions.new }
+    ensures stands { positions.new.stands ≡ positions.old.stands }
     ensures no_more { left_to_do world.now positions.new ≤ left_to_do world.now positions.old }
 {
     // For the proof: the world is looked at no more.
@@ -277,44 +266,60 @@ fn let_go(world: &World, positions: &mut Positions, rank: u16, look: Look)
     }
 }
 
-/// Moves the rank in hand on, at which a look answered this, until it waits or rests.
-fn settle_rank(world: &World, positions: &mut Positions, rank: u16, look: Look)
-    requires in_hand { HaveInHand world.now positions.old rank }
-    requires tells { RankTells world.now positions.old rank look }
-    requires room { look ≡ Look.Moves → slice_index positions.old.stands.items rank < most_calls }
+/// Moves the rank in hand on by one and answers true, or lets it go where it waits or rests. It may just have come to the
+/// call where it stands.
+#[inline(always)]
+fn moves_on(world: &World, positions: &mut Positions, rank: u16, has_come: bool) -> bool
+    requires come { has_come ≡ true → AreReached world.now positions.old rank (slice_index positions.old.stands.items rank) }
+    requires in_hand { has_come ≡ false → HaveInHand world.now positions.old rank }
+    ensures moves { result ≡ true → AreReached world.now positions.new rank (slice_index positions.new.stands.items rank) }
+    ensures stays { result ≡ false → AreKept world.now positions.new }
+    ensures goes_on { GoOn positions.old positions.new }
+    ensures fewer { result ≡ true → calls_left world.now positions.new < calls_left world.now positions.old }
+    ensures same { result ≡ false → positions.new.stands ≡ positions.old.stands }
+    ensures no_more { has_come ≡ false → result ≡ false → left_to_do world.now positions.new ≤ left_to_do world.now positions.old }
+{
+    let place = positions.stand(rank);
+    let look = look_there(world, positions, (rank, place), has_come);
+    if matches!(look, Look::Moves) {
+        move_on(&mut positions.stands, rank);
+        true
+    } else {
+        let_go(world, positions, rank, look);
+        false
+    }
+}
+
+/// Moves the rank in hand on until it waits or rests. It may just have come to the call where it stands.
+#[inline(always)]
+fn settle_rank(world: &World, positions: &mut Positions, rank: u16, has_come: bool)
+    requires come { has_come ≡ true → AreReached world.now positions.old rank (slice_index positions.old.stands.items rank) }
+    requires in_hand { has_come ≡ false → HaveInHand world.now positions.old rank }
     ensures kept { AreKept world.now positions.new }
     ensures goes_on { GoOn positions.old positions.new }
-    ensures no_more { left_to_do world.now positions.new ≤ left_to_do world.now positions.old }
+    ensures no_more { left_to_do world.now positions.new ≤ left_to_do world.now positions.old + ranks_once world.now has_come }
 {
-    let mut look = look;
-    while matches!(look, Look::Moves) {
-        look = step(world, positions, rank);
-    }
-    let_go(world, positions, rank, look);
-}
-
-/// Looks at ranks until none is to be looked at. It takes no memory.
-fn settle(world: &World, positions: &mut Positions)
-    requires { AreKept world.now positions.old }
-    ensures settled { AreSettled world.now positions.new }
-    ensures goes_on { GoOn positions.old positions.new }
-{
-    while let Some(rank) = positions.waiters.next() {
-        let look = look_at(world, positions, rank);
-        settle_rank(world, positions, rank, look);
+    let mut has_come = has_come;
+    while moves_on(world, positions, rank, has_come) {
+        has_come = true;
     }
 }
 
-/// Looks at the rank in hand, and then at others until none is to be looked at. It takes no memory.
+/// Moves the rank on that has just come to the call where it stands, and then others until none is to be looked at. It
+/// takes no memory. Each function of a kind is called from one place here, so that the compiler inlines it.
 #[inline(never)]
-fn settle_from(world: &World, positions: &mut Positions, rank: u16)
-    requires { HaveInHand world.now positions.old rank }
+fn settle(world: &World, positions: &mut Positions, rank: u16)
+    requires { AreReached world.now positions.old rank (slice_index positions.old.stands.items rank) }
     ensures settled { AreSettled world.now positions.new }
     ensures goes_on { GoOn positions.old positions.new }
 {
-    let look = look_at(world, positions, rank);
-    settle_rank(world, positions, rank, look);
-    settle(world, positions);
+    let mut has_come = true;
+    let mut next = Some(rank);
+    while let Some(rank) = next {
+        settle_rank(world, positions, rank, has_come);
+        has_come = false;
+        next = positions.waiters.next();
+    }
 }
 
 /// Moves the ranks on once a rank's call has arrived at the place, at its list's end: only where the rank
@@ -326,10 +331,6 @@ pub(crate) fn arrive(world: &World, positions: &mut Positions, rank: u16, place:
     ensures goes_on { GoOn positions.old positions.new }
 {
     if positions.stand(rank) == place {
-        let look = come_to(world, positions, rank, place);
-        settle_rank(world, positions, rank, look);
-        if let Some(other) = positions.waiters.next() {
-            settle_from(world, positions, other);
-        }
+        settle(world, positions, rank);
     }
 }

@@ -1,5 +1,5 @@
 -- What `Waiting` says, of a world (the calls with the reading of their sends) and of the positions of its ranks.
-use Rattle.std.specs.Prelude.{◌≡◌, ◌≤◌, ℕ, Option, Some, option_map, slice_get, IfSome}
+use Rattle.std.specs.Prelude.{◌≡◌, ◌-◌, ◌≤◌, ℕ, Bool, length, if◌then◌else◌, Option, Some, option_map, slice_get, IfSome}
 use Rattle.callstore.specs.Recordings.{calls_of}
 use Rattle.pairing.specs.Seen.{call_seen, IsSeen}
 use Rattle.pairing.specs.declared.call_at.CallAt.{CallAt}
@@ -7,7 +7,8 @@ use Rattle.mpicall.specs.declared.call.Call.{Call}
 use Rattle.moves.specs.declared.look.Look.{Look}
 use Rattle.moves.specs.declared.world.World.{World}
 use Rattle.moves.specs.declared.world.Positions.{Positions}
-use Rattle.moves.specs.Runs.{StandsNoLater}
+use Rattle.moves.specs.Runs.{StandsNoLater, total}
+use Rattle.moves.specs.Stands.{call_count}
 use Rattle.moves.specs.inner.Waiting.{AreWaves, IsNoException, IsNobody, HoldsBetweenLooks, IsInHand, IsSettled, IsReaching, HasArrived, TellsOperation, TellsRequest, TellsCompleted, TellsCall, TellsRank, touches_of, to_do}
 
 -- the call is there, by its rank and its place
@@ -72,3 +73,11 @@ pub record HaveWoken (w : World) (before after : Positions) (rank : ℕ) : Type 
 -- what is still to do, at most
 abbrev pub left_to_do : World → Positions → ℕ
 left_to_do w p = to_do w.pairs.recording p.stands.items p.waiters
+
+-- how many calls are not passed
+abbrev pub calls_left : World → Positions → ℕ
+calls_left w p = call_count w.pairs.recording - total p.stands.items
+
+-- a call that is reached wakes each rank at most
+abbrev pub ranks_once : World → Bool → ℕ
+ranks_once w has_come = if has_come then length w.pairs.recording else 0
