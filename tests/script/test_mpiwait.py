@@ -15,6 +15,8 @@ LINE = "mpiwait: this answer comes of code that isn't proved on this machine\n"
 # It notes its words, one a line, and plays a try; asked to run the program, it makes one that shows its own.
 RT = f"""#!/bin/sh
 printf '%s\\n' "$@" > "$PLAYED/words"
+printf '%s\\n' "$*" >> "$PLAYED/calls"
+[ "$1" != all ] || exit "${{ALL:-0}}"
 if [ "$1" = run ]; then
     mkdir -p out && cp {shutil.which("echo")} out/mpiwait
     exit
@@ -281,6 +283,17 @@ class Script(unittest.TestCase):
         self.assertEqual((status, out), (0, "check head r0\n"))
         self.assertIn("proving and building it, this first time only: half an hour; "
                       "./mpiwait --unproved .. answers in a minute\n", err)
+
+    def test_crates_are_proved_at_once_and_then_the_program_is_built(self):
+        for status in ("0", "1"):
+            with patch.dict(os.environ, {"ALL": status}):
+                shutil.rmtree(self.top / "crates/mpiwait/out", ignore_errors=True)
+                (self.folder / "calls").unlink(missing_ok=True)
+                self.assertEqual(self.run_script("check", "head", "r0")[:2], (0, "check head r0\n"))
+                first, second = (self.folder / "calls").read_text().splitlines()
+                self.assertRegex(first, "^all check --jobs [1-9][0-9]*$")
+                self.assertLessEqual(int(first.split()[-1]), os.cpu_count())
+                self.assertEqual(second, "run -- --version")
 
     def test_the_proved_program_is_used_where_it_is_built(self):
         self.run_script("check", "head", "r0")
