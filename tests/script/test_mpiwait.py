@@ -295,6 +295,15 @@ class Script(unittest.TestCase):
                 self.assertLessEqual(int(first.split()[-1]), os.cpu_count())
                 self.assertEqual(second, "run -- --version")
 
+    def test_one_crate_at_once_where_nothing_tells_how_many_may_be(self):
+        for name in ("awk", "nproc"):
+            (self.folder / "bin" / name).write_text("#!/bin/sh\nexit 1\n")
+            (self.folder / "bin" / name).chmod(0o755)
+            shutil.rmtree(self.top / "crates/mpiwait/out", ignore_errors=True)
+            (self.folder / "calls").unlink(missing_ok=True)
+            self.assertEqual(self.run_script("check", "head", "r0")[:2], (0, "check head r0\n"))
+            self.assertEqual((self.folder / "calls").read_text().splitlines()[0], "all check --jobs 1")
+
     def test_the_proved_program_is_used_where_it_is_built(self):
         self.run_script("check", "head", "r0")
         self.assertEqual(self.run_script("--unproved", "check", "head"), (0, "check head\n", ""))
