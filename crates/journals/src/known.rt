@@ -224,9 +224,7 @@ impl Known {
             Word::Call(CallWord::Wait) => self.admit_call(lines, taken.line, CallWord::Wait),
             Word::Call(CallWord::Recv) => self.admit_call(lines, taken.line, CallWord::Recv),
             Word::Call(word) => self.admit_any(lines, taken.line, word),
-            Word::Report(ReportWord::Got) => self.admit_got(lines, taken.line),
-            Word::Report(ReportWord::Done) => self.admit_done(lines, taken.line),
-            Word::Report(word) => self.admit_told(lines, taken.line, word),
+            Word::Report(word) => self.admit_report(lines, taken.line, word),
         }
     }
 
@@ -272,56 +270,7 @@ impl Known {
         Ok(())
     }
 
-    /// Takes the report of a message that the last call took.
     #[inline(never)]
-    fn admit_got(&mut self, lines: &Lines, line: u32) -> Result<(), LineFault>
-        requires next { IsNext (ranks_in self.old.marks) lines.now line
-            (record { word = Report ReportWord.Got; fields = fields_at lines.now line }) }
-        requires knows { Knows (take line lines.now) self.old }
-        requires goes_on { self.old.is_over ≡ false }
-        requires some { 1 ≤ ranks_in self.old.marks }
-        ensures owner { owner_of self.new ≡ owner_of self.old }
-        ensures answer { Answers (owner_of self.old) (take line lines.now)
-            (record { word = Report ReportWord.Got; fields = fields_at lines.now line }) result }
-        ensures knows { OnOk result (Knows lines.now self.new) }
-    {
-        self.admit_report(lines, line, ReportWord::Got)
-    }
-
-    /// Takes the report of a request that completed.
-    #[inline(never)]
-    fn admit_done(&mut self, lines: &Lines, line: u32) -> Result<(), LineFault>
-        requires next { IsNext (ranks_in self.old.marks) lines.now line
-            (record { word = Report ReportWord.Done; fields = fields_at lines.now line }) }
-        requires knows { Knows (take line lines.now) self.old }
-        requires goes_on { self.old.is_over ≡ false }
-        requires some { 1 ≤ ranks_in self.old.marks }
-        ensures owner { owner_of self.new ≡ owner_of self.old }
-        ensures answer { Answers (owner_of self.old) (take line lines.now)
-            (record { word = Report ReportWord.Done; fields = fields_at lines.now line }) result }
-        ensures knows { OnOk result (Knows lines.now self.new) }
-    {
-        self.admit_report(lines, line, ReportWord::Done)
-    }
-
-    /// Takes any other report.
-    #[inline(never)]
-    fn admit_told(&mut self, lines: &Lines, line: u32, word: ReportWord) -> Result<(), LineFault>
-        requires next { IsNext (ranks_in self.old.marks) lines.now line
-            (record { word = Report word; fields = fields_at lines.now line }) }
-        requires knows { Knows (take line lines.now) self.old }
-        requires goes_on { self.old.is_over ≡ false }
-        requires some { 1 ≤ ranks_in self.old.marks }
-        ensures owner { owner_of self.new ≡ owner_of self.old }
-        ensures answer { Answers (owner_of self.old) (take line lines.now)
-            (record { word = Report word; fields = fields_at lines.now line }) result }
-        ensures knows { OnOk result (Knows lines.now self.new) }
-    {
-        self.admit_report(lines, line, word)
-    }
-
-    /// Takes a report; of a word that is known where this is called by what is built for it.
-    #[inline(always)]
     fn admit_report(&mut self, lines: &Lines, line: u32, word: ReportWord) -> Result<(), LineFault>
         requires next { IsNext (ranks_in self.old.marks) lines.now line
             (record { word = Report word; fields = fields_at lines.now line }) }
