@@ -14,6 +14,7 @@ use Rattle.closing.specs.Called.{Called, MakesOfGroup}
 use Rattle.closing.specs.Keys.{Key, is_key_among, same_key}
 use Rattle.closing.specs.RankComms.{RankComms, key_next, with_some}
 use Rattle.closing.specs.inner.Holds.{IsGot, brings, key_on, report_taken}
+use Rattle.closing.specs.inner.Pending.{key_told}
 use Rattle.closing.specs.inner.Surveyed.{HaveFlags, as_list, with_name}
 use Rattle.closing.specs.Table.{Table}
 use Rattle.closing.specs.inner.Table.{Grows, HasKey, IsTable, IsPlaceOf, keys_in}
@@ -182,6 +183,20 @@ none_brought comms report.Kept fields e = refl
 none_brought comms report.Moved fields e = refl
 none_brought comms report.NoComm fields e = refl
 none_brought comms report.Failed fields e = refl
+
+-- and none is told
+pub none_told : (table : Table) (comms : RankComms) (word : ReportWord) (fields : List Field) → brings word ≡ false → IsPlaceOf table None (key_told comms word fields)
+none_told table comms report.Comm fields e = cc
+none_told table comms report.Idup fields e = cc
+none_told table comms report.Apart fields e = cc
+none_told table comms report.Got fields e = tt
+none_told table comms report.Done fields e = tt
+none_told table comms report.Chose fields e = tt
+none_told table comms report.Gone fields e = tt
+none_told table comms report.Kept fields e = tt
+none_told table comms report.Moved fields e = tt
+none_told table comms report.NoComm fields e = tt
+none_told table comms report.Failed fields e = tt
 
 pub got_grow : (a b : Table) (places : List ℕ) (keys : List Key) → Grows a b → AllZip (HasKey a) places keys → AllZip (HasKey b) places keys
 got_grow a b places keys grows all = zip_grows (HasKey a) (HasKey b) (λ n k h. grows.keys n k h) places keys all

@@ -1,5 +1,5 @@
 -- The survey of the journals, line by line and rank by rank.
-use Rattle.std.proofs.Common.{◌≡◌, ◌∙◌, refl, sym, ap, subst, ℕ, ◌+◌, ◌-◌, ◌≤◌, Bool, false, List, [], ◌∷◌, ◌++◌, length, take, replicate, Option, Some, append_assoc, length-append, arith}
+use Rattle.std.proofs.Common.{◌≡◌, ◌∙◌, refl, sym, ap, subst, ℕ, ◌+◌, ◌-◌, ◌≤◌, Bool, false, List, [], ◌∷◌, ◌++◌, length, take, replicate, Option, None, Some, append_assoc, length-append, arith}
 use Rattle.std.specs.Prelude.{map, option_map}
 use Rattle.std.specs.List.{AllZip, flat_map, slice_get}
 use Rattle.std.proofs.lemmas.List.{append-nil, take_all}
@@ -169,6 +169,12 @@ group_room a b d e place same_b makes same_d flags same_e few =
     ap (λ (s : Survey). length s.named.items) same_e ∙ ap length flags ∙ with_name_long place b.named.items
     ∙ ap length (makes few) ∙ room_made a.named.items (length a.keys.codes) few
     ∙ sym (ap (λ (s : Survey). length s.keys.codes) same_e ∙ ap (λ (s : Survey). length s.keys.codes) same_d ∙ ap (λ (s : Survey). length s.keys.codes) same_b)
+
+-- where nothing was got
+pub none_takes : (it : Survey) (gots names : List Key) (key : Option Key) → HasGot gots names it → IsPlaceOf it.keys None key → HasGot (gots ++ as_list key) (names ++ as_list key) it
+none_takes it gots names None has at =
+    subst (λ (ks : List Key). HasGot ks (names ++ []) it) (sym (append-nil gots)) (subst (λ (ks : List Key). HasGot gots ks it) (sym (append-nil names)) has)
+none_takes it gots names (Some key) has at = absurd at
 
 pub call_takes : (before names : List Key) (it : RankComms) (said : Called) (a b d e : Survey) (k l : CommsCode) (on own : Option ℕ) → HasRank before names it a k
     → IsPlaceOf a.keys on (key_on it said) → b ≡ record a { named = b.named } → b.named.items ≡ with_name on a.named.items

@@ -33,7 +33,8 @@ use journals::word::{CallWord, ReportWord, Word};
 use std::alloc::{AllocError, Global};
 
 /// Whether a report with this word may bring its rank a communicator.
-fn brings(word: ReportWord) -> bool
+#[inline(always)]
+pub(crate) fn brings(word: ReportWord) -> bool
     ensures { result ≡ brings word }
 {
     matches!(
@@ -110,7 +111,7 @@ impl Survey {
             Keeps before (names ++ names_by it (words.Call word) fields.now) (after_call it (called word fields.now)) self.old self.new comms.new) }
     {
         if is_plain(word) {
-            self.take_plain(comms, word, fields)?;
+            self.take_plain(comms, word, fields);
             return Ok(());
         }
         self.take_other(comms, word, fields)?;
@@ -118,22 +119,15 @@ impl Survey {
     }
 
     /// Takes a call that neither counts nor makes a communicator: it only names one.
-    fn take_plain(
-        &mut self,
-        comms: &mut RankComms,
-        word: CallWord,
-        fields: &[Field],
-    ) -> Result<(), AllocError>
+    fn take_plain(&mut self, comms: &mut RankComms, word: CallWord, fields: &[Field])
         requires { is_plain word ≡ true }
-        ensures same { self.new ≡ record self.old { keys = self.new.keys; named = self.new.named; got = self.new.got } }
-        ensures takes { OnOk result ((before names : List SaidKey) (it : say.RankComms) → HasRank before names it self.old comms.old →
-            Keeps before (names ++ names_by it (words.Call word) fields.now) (after_call it (called word fields.now)) self.old self.new comms.new) }
+        ensures same { self.new ≡ record self.old { named = self.new.named } }
+        ensures takes { (before names : List SaidKey) (it : say.RankComms) → HasRank before names it self.old comms.old →
+            Keeps before (names ++ names_by it (words.Call word) fields.now) (after_call it (called word fields.now)) self.old self.new comms.new }
     {
         let on = comms.key_if(comm_in(word, fields));
         self.name(on);
         comms.take_plain();
-        self.take_of_group(None)?;
-        Ok(())
     }
 
     fn take_other(

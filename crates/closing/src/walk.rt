@@ -13,7 +13,7 @@ ghost use Rattle.closing.specs.FitComms.{comms_are_numbered};
 ghost use Rattle.closing.specs.Made.{inferred_key};
 ghost use Rattle.closing.specs.Recording.{is_end, progress_first};
 ghost use Rattle.closing.specs.Steps.{Progress};
-ghost use Rattle.closing.specs.inner.Holds.{HasComms};
+ghost use Rattle.closing.specs.inner.Holds.{HasComms, brings};
 ghost use Rattle.closing.specs.inner.CallOf.{IsCallOf};
 ghost use Rattle.closing.specs.inner.Lists.{Handed, Stands, has_place};
 ghost use Rattle.closing.specs.inner.Makers.{MayMake};
@@ -48,6 +48,7 @@ use crate::pending::{Pending, Sink, Sinks};
 use crate::rank_comms::RankComms;
 use crate::standing::Standing;
 use crate::stop::Stop;
+use crate::survey::brings;
 use crate::why::Why;
 use journals::field::Field;
 use journals::journal::Journal;
@@ -171,6 +172,17 @@ fn call_at(lines: &Lines, line: u32) -> Option<CallWord>
         Some(Word::Call(word)) => Some(word),
         Some(Word::Report(_)) => None,
         None => None,
+    }
+}
+
+/// Whether a line is a report that brings no communicator.
+#[inline(always)]
+fn brings_none(lines: &Lines, line: u32) -> bool
+    ensures { result ≡ true → (word : Reported) → word_at lines.now line ≡ Some (Report word) → brings word ≡ false }
+{
+    match lines.word(line) {
+        Some(Word::Report(word)) => !brings(word),
+        _ => false,
     }
 }
 
@@ -417,11 +429,10 @@ impl Walk {
 
     // ---- Entries ----
 
-    /// Takes the report at a place, if there is one, and answers the key of the communicator that the call before
-    /// it made.
+    /// Does what `take_report` does, by any report.
     #[inline(never)]
     #[tactic(auto, using(crate::proofs::PlacedLemmas::comms_reported))]
-    fn take_report(
+    fn take_any_report(
         &mut self,
         run: &mut Communicators,
         lines: &Lines,
@@ -445,6 +456,29 @@ impl Walk {
             ReportWord::Comm => Ok(key),
             _ => Ok(None),
         }
+    }
+
+    /// Takes the report at a place, if there is one, and answers the key of the communicator that the call before
+    /// it made. Most bring none.
+    #[inline(always)]
+    fn take_report(
+        &mut self,
+        run: &mut Communicators,
+        lines: &Lines,
+        line: u32,
+    ) -> Result<Option<u32>, AllocError>
+        ensures same { self.new ≡ record self.old { comms = self.new.comms } }
+        ensures run { run.new ≡ record run.old { keys = run.new.keys } }
+        ensures comms { OnOk result ((rank : ℕ) (word : Reported) → word_at lines.now line ≡ Some (Report word) → HasComms run.old.keys self.old.comms (comms_at rank lines.now line) →
+            HasComms run.new.keys self.new.comms (comms_at rank lines.now (line + 1))) }
+        ensures grows { OnOk result ((rank : ℕ) → HasComms run.old.keys self.old.comms (comms_at rank lines.now line) → Grows run.old.keys run.new.keys) }
+        ensures made { IfOk result (λ made. (rank : ℕ) (word : Reported) → word_at lines.now line ≡ Some (Report word) → HasComms run.old.keys self.old.comms (comms_at rank lines.now line) →
+            IsPlaceOf run.new.keys made (key_told (comms_at rank lines.now line) word (fields_in lines.now line))) }
+    {
+        if brings_none(lines, line) {
+            return Ok(None);
+        }
+        self.take_any_report(run, lines, line)
     }
 
     /// Takes the reports at some places, and answers the key of the communicator that the call before them

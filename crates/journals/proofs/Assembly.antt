@@ -36,6 +36,8 @@ use Rattle.journals.proofs.ReportNotes.{after_report, after_failed, noted_not}
 use Rattle.journals.proofs.CommLemmas.{comm_after_call, comm_stays, comm_comes, group_at_left, brought_is, listed}
 use Rattle.journals.proofs.AdmitLemmas.{faults_are, call_wrong, report_wrong, comms_wrong, follows_is, out_of_place}
 use Rattle.journals.proofs.GroupFields.{report_group, natural_members, call_members}
+use Rattle.journals.specs.inner.Places.{comm_place}
+use Rattle.journals.proofs.PlaceLemmas.{no_comm}
 use Rattle.journals.proofs.RightGroups.{right_call, right_report}
 use Rattle.journals.proofs.KnowsLemmas.{fields_stay, last_call, last_report, over_push, call_uses, report_uses}
 
@@ -318,3 +320,22 @@ flip_true r false is not_r = absurd (true≢false (sym is ∙ not_r))
 pub flip_false : (r w : Bool) → r ≡ not w → r ≡ true → w ≡ false
 flip_false r true is it = absurd (true≢false (sym it ∙ is))
 flip_false r false is it = refl
+
+-- a report that brings no communicator names none, has no group, and leaves those that are known
+no_comm_in : (word : ReportWord) → brings word ≡ false → comm_place (Report word) ≡ None
+no_comm_in report.Comm none = absurd (true≢false none)
+no_comm_in report.Idup none = absurd (true≢false none)
+no_comm_in report.Apart none = absurd (true≢false none)
+no_comm_in word none = refl
+
+pub knows_all : (known : ℕ → Bool) (word : ReportWord) (fields : List Field) → brings word ≡ false → wrong_comm known (numbered (Report word) fields) ≡ false
+knows_all known word fields none = no_comm known (Report word) fields (no_comm_in word none)
+
+pub right_without_comm : (known : Known) (lines : List Line) (word : ReportWord) (fields : List Field) → brings word ≡ false → is_right_report known lines word fields ≡ true
+right_without_comm known lines report.Comm fields none = absurd (true≢false none)
+right_without_comm known lines report.Idup fields none = absurd (true≢false none)
+right_without_comm known lines report.Apart fields none = absurd (true≢false none)
+right_without_comm known lines word fields none = refl
+
+pub comms_without : (word : ReportWord) (fields : List Field) (place : ℕ) (comms : Comms) → brings word ≡ false → (comm : ℕ) → get nat_eq comms comm ≡ comms_with (brought_in word fields) place comm (get nat_eq comms comm)
+comms_without word fields place comms none comm = rw none refl

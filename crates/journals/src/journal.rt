@@ -174,7 +174,6 @@ fn header_of(
 #[derive(Drop)]
 struct JournalReader {
     ranks: u32,
-    window: Window,
     lines: Lines,
     known: Known,
     /// The number of the next line, the header being line 1.
@@ -183,8 +182,8 @@ struct JournalReader {
 
 impl JournalReader {
     /// Takes the next line, which has so many of the held bytes, its line feed last.
-    fn take_line(&mut self, count: usize) -> Result<(), JournalError>
-        requires line { IsLine self.old.window count }
+    fn take_line(&mut self, window: &mut Window, count: usize) -> Result<(), JournalError>
+        requires line { IsLine window.old count }
         requires ranks { (owner_of self.old.known).ranks ≡ self.old.ranks }
         requires knows { Knows self.old.lines self.old.known }
         requires number { self.old.number ≡ length self.old.lines + 2 }
@@ -194,11 +193,11 @@ impl JournalReader {
         ensures knows { OnOk result (Knows self.new.lines self.new.known) }
         ensures number { OnOk result (self.new.number ≡ length self.new.lines + 2) }
         ensures next { OnOk result (self.new.number ≡ self.old.number + 1) }
-        ensures window { OnOk result (self.new.window ≡ drop count self.old.window) }
+        ensures window { OnOk result (window.new ≡ drop count window.old) }
         ensures takes { TakesText (owner_of self.old.known) self.old.number self.old.lines self.new.lines
-            (take (count - 1) self.old.window) result }
+            (take (count - 1) window.old) result }
     {
-        let line = held_line(&self.window, count);
+        let line = held_line(window, count);
         let taken = match self.lines.read(self.ranks, line) {
             Ok(taken) => taken,
             Err(fault) => return Err(fault_at(self.number, fault)),
@@ -207,13 +206,14 @@ impl JournalReader {
             return Err(fault_at(self.number, fault));
         }
         self.number = u64::from(taken.line) + 3;
-        self.window.drop_front(count);
+        window.drop_front(count);
         Ok(())
     }
 
     /// Reads the next line of the text, and takes it; false at the end.
     fn read_next<I: Input>(
         &mut self,
+        window: &mut Window,
         text: &mut TextInput<I>,
         wait: &impl Wait,
     ) -> Result<bool, JournalError>
@@ -228,17 +228,17 @@ impl JournalReader {
         ensures next { CountsNext self.old.number self.new.number result }
         ensures lines { ReadsNext
             (lines_to_come (owner_of self.old.known) self.old.lines
-            (coming self.old.window (text_left I.left text.old)))
+            (coming window.old (text_left I.left text.old)))
             (lines_to_come (owner_of self.old.known) self.new.lines
-            (coming self.new.window (text_left I.left text.new)))
+            (coming window.new (text_left I.left text.new)))
             self.new.lines result }
-        ensures cut { CutsAt self.old.number (prepend_known self.old.window (text_left I.left text.old))
+        ensures cut { CutsAt self.old.number (prepend_known window.old (text_left I.left text.old))
             (text_left I.left text.new) result }
-        ensures passes { PassesNext (prepend_known self.old.window (text_left I.left text.old))
-            (prepend_known self.new.window (text_left I.left text.new)) result }
+        ensures passes { PassesNext (prepend_known window.old (text_left I.left text.old))
+            (prepend_known window.new (text_left I.left text.new)) result }
     {
-        match find_line(&mut self.window, text, self.number, wait) {
-            Ok(Some(count)) => match self.take_line(count) {
+        match find_line(window, text, self.number, wait) {
+            Ok(Some(count)) => match self.take_line(window, count) {
                 Ok(()) => Ok(true),
                 Err(error) => Err(error),
             },
@@ -272,6 +272,7 @@ fn checked(known: &Known, lines: Lines) -> Result<Lines, JournalError>
 /// Reads the lines after the header to the text's end.
 fn read_lines<I: Input>(
     mut reading: JournalReader,
+    window: &mut Window,
     text: &mut TextInput<I>,
     room: &mut Room,
     wait: &impl Wait,
@@ -282,13 +283,13 @@ fn read_lines<I: Input>(
     requires some { 1 ≤ reading.ranks }
     ensures lines { AnswersComing
         (option_map unless_moved_wrongly (lines_to_come (owner_of reading.known) reading.lines
-        (coming reading.window (text_left I.left text.old))))
+        (coming window.old (text_left I.left text.old))))
         result }
-    ensures cut { FailsFrom reading.number (prepend_known reading.window (text_left I.left text.old))
+    ensures cut { FailsFrom reading.number (prepend_known window.old (text_left I.left text.old))
         (text_left I.left text.new) result }
 {
     for _ in wait.forever() {
-        match reading.read_next(text, wait) {
+        match reading.read_next(window, text, wait) {
             Ok(true) => {}
             Ok(false) => {
                 let JournalReader {
@@ -334,12 +335,11 @@ pub fn read_journal<I: Input>(
     let known = Known::new(room.alloc(), header.ranks, rank, room.take())?;
     let reading = JournalReader {
         ranks: header.ranks,
-        window,
         lines: room.lines(),
         known,
         number: 2,
     };
-    match read_lines(reading, text, room, wait) {
+    match read_lines(reading, &mut window, text, room, wait) {
         Ok(lines) => Ok(Journal { header, lines }),
         Err(error) => Err(error),
     }

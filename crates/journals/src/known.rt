@@ -37,6 +37,9 @@ use crate::word::{CallWord, ReportWord, Word};
 use std::alloc::{AllocError, Global};
 use std::collections::HashMap;
 
+/// A report that can't be where it is.
+const OUT_OF_PLACE: LineFault = LineFault::Journal(JournalFaultKind::OutOfPlace);
+
 /// What is known of the requests, messages and communicators of a journal, and of its last call line.
 #[derive(Drop)]
 pub(crate) struct Known {
@@ -224,6 +227,8 @@ impl Known {
             Word::Call(CallWord::Wait) => self.admit_call(lines, taken.line, CallWord::Wait),
             Word::Call(CallWord::Recv) => self.admit_call(lines, taken.line, CallWord::Recv),
             Word::Call(word) => self.admit_any(lines, taken.line, word),
+            Word::Report(ReportWord::Got) => self.admit_got(lines, taken.line),
+            Word::Report(ReportWord::Done) => self.admit_done(lines, taken.line),
             Word::Report(word) => self.admit_report(lines, taken.line, word),
         }
     }
@@ -270,6 +275,75 @@ impl Known {
         Ok(())
     }
 
+    /// Takes the report of a message that the last call took.
+    #[inline(never)]
+    fn admit_got(&mut self, lines: &Lines, line: u32) -> Result<(), LineFault>
+        requires next { IsNext (ranks_in self.old.marks) lines.now line
+            (record { word = Report ReportWord.Got; fields = fields_at lines.now line }) }
+        requires knows { Knows (take line lines.now) self.old }
+        requires goes_on { self.old.is_over ≡ false }
+        requires some { 1 ≤ ranks_in self.old.marks }
+        ensures owner { owner_of self.new ≡ owner_of self.old }
+        ensures answer { Answers (owner_of self.old) (take line lines.now)
+            (record { word = Report ReportWord.Got; fields = fields_at lines.now line }) result }
+        ensures knows { OnOk result (Knows lines.now self.new) }
+    {
+        self.admit_common_report(lines, line, ReportWord::Got)
+    }
+
+    /// Takes the report of a message that completed a request.
+    #[inline(never)]
+    fn admit_done(&mut self, lines: &Lines, line: u32) -> Result<(), LineFault>
+        requires next { IsNext (ranks_in self.old.marks) lines.now line
+            (record { word = Report ReportWord.Done; fields = fields_at lines.now line }) }
+        requires knows { Knows (take line lines.now) self.old }
+        requires goes_on { self.old.is_over ≡ false }
+        requires some { 1 ≤ ranks_in self.old.marks }
+        ensures owner { owner_of self.new ≡ owner_of self.old }
+        ensures answer { Answers (owner_of self.old) (take line lines.now)
+            (record { word = Report ReportWord.Done; fields = fields_at lines.now line }) result }
+        ensures knows { OnOk result (Knows lines.now self.new) }
+    {
+        self.admit_common_report(lines, line, ReportWord::Done)
+    }
+
+    /// Takes a report that brings no communicator; of a word that is known where this is called by what is built
+    /// for it.
+    #[inline(always)]
+    fn admit_common_report(
+        &mut self,
+        lines: &Lines,
+        line: u32,
+        word: ReportWord,
+    ) -> Result<(), LineFault>
+        requires next { IsNext (ranks_in self.old.marks) lines.now line
+            (record { word = Report word; fields = fields_at lines.now line }) }
+        requires knows { Knows (take line lines.now) self.old }
+        requires goes_on { self.old.is_over ≡ false }
+        requires some { 1 ≤ ranks_in self.old.marks }
+        requires brings_none { brings word ≡ false }
+        ensures owner { owner_of self.new ≡ owner_of self.old }
+        ensures answer { Answers (owner_of self.old) (take line lines.now)
+            (record { word = Report word; fields = fields_at lines.now line }) result }
+        ensures knows { OnOk result (Knows lines.now self.new) }
+    {
+        let fields = lines.fields(line);
+        if !self.is_in_place(lines, word, fields) {
+            return Err(OUT_OF_PLACE);
+        }
+        let completed = chosen_by(self.last, word);
+        note_report(
+            &mut self.notes,
+            ReportLine {
+                word,
+                fields,
+                line,
+                completed,
+            },
+        )?;
+        self.note_last(lines, word)
+    }
+
     #[inline(never)]
     fn admit_report(&mut self, lines: &Lines, line: u32, word: ReportWord) -> Result<(), LineFault>
         requires next { IsNext (ranks_in self.old.marks) lines.now line
@@ -284,7 +358,7 @@ impl Known {
     {
         let fields = lines.fields(line);
         if !self.is_in_place(lines, word, fields) {
-            return Err(LineFault::Journal(JournalFaultKind::OutOfPlace));
+            return Err(OUT_OF_PLACE);
         }
         let completed = chosen_by(self.last, word);
         note_report(

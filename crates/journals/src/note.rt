@@ -4,9 +4,9 @@
 //! number that a line names twice is found without a search, and a failed call can be taken back.
 
 ghost use Rattle.std.specs.Prelude.{◌≡◌, ◌||◌, ◌&&◌};
-ghost use Rattle.journals.specs.Known.{has_wildcard, receive_in, is_wildcard, duplicated_in};
+ghost use Rattle.journals.specs.Known.{has_wildcard, receive_in, is_outcome, is_wildcard, duplicated_in};
 ghost use Rattle.journals.specs.inner.Notes.{request_note, message_note, called_note, is_callable, reported_note, is_now, undone_note};
-ghost use Rattle.journals.specs.declared.word.Word.TheVariants.{Call};
+ghost use Rattle.journals.specs.declared.word.Word.TheVariants.{Call, Report};
 
 use crate::field::Field;
 use crate::last::completes_all;
@@ -128,6 +128,17 @@ fn parent_of(word: CallWord, fields: &[Field], number: u32) -> Option<u32>
     }
 }
 
+/// Whether a report says what came of a request.
+#[inline(always)]
+fn is_outcome(word: ReportWord) -> bool
+    ensures { result ≡ is_outcome (Report word) }
+{
+    matches!(
+        word,
+        ReportWord::Done | ReportWord::Gone | ReportWord::Kept | ReportWord::Moved
+    )
+}
+
 impl Note {
     /// What a call line says of a request that it numbers.
     #[inline(always)]
@@ -210,24 +221,21 @@ impl Note {
         }
     }
 
-    /// What it is once a report names it; `completed` is the call line that completed it by this report.
+    /// Makes it in place what it is once a report names it; `completed` is the call line that completed it by this
+    /// report.
     #[inline(always)]
-    pub(crate) fn when_reported(self, word: ReportWord, line: u32, completed: Option<u32>) -> Note
-        ensures { result ≡ reported_note word line completed self }
+    pub(crate) fn report(&mut self, word: ReportWord, line: u32, completed: Option<u32>)
+        ensures { self.new ≡ reported_note word line completed self.old }
     {
-        let is_outcome = matches!(
-            word,
-            ReportWord::Done | ReportWord::Gone | ReportWord::Kept | ReportWord::Moved
-        );
-        Note {
-            reported: Some(line),
-            has_outcome: self.has_outcome || is_outcome,
-            is_brought: self.is_brought || matches!(word, ReportWord::Idup),
-            completed: match completed {
-                Some(call) => Some(call),
-                None => self.completed,
-            },
-            ..self
+        self.reported = Some(line);
+        if is_outcome(word) {
+            self.has_outcome = true;
+        }
+        if let ReportWord::Idup = word {
+            self.is_brought = true;
+        }
+        if completed.is_some() {
+            self.completed = completed;
         }
     }
 

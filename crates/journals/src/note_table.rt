@@ -6,11 +6,11 @@
 ghost use Rattle.std.specs.Prelude.{◌≡◌, ◌==◌, ◌<◌, ℕ, None, Some, true, IfOk, MatchBool, OnOk, if◌then◌else◌, option_map};
 ghost use Rattle.std.specs.Prelude.{nat_eq};
 ghost use Rattle.std.specs.HashMap.{get};
-ghost use Rattle.journals.specs.inner.Notes.{note_at, may_call, by_call, called_note};
+ghost use Rattle.journals.specs.inner.Notes.{note_at, may_call, by_call, called_note, may_report, by_report, reported_note};
 
 use crate::form::Form;
 use crate::note::Note;
-use crate::notes::{CallLine, may_call};
+use crate::notes::{CallLine, ReportLine, may_call, may_report};
 use std::alloc::{AllocError, Global};
 use std::collections::HashMap;
 
@@ -28,6 +28,16 @@ fn call_in_place(held: &mut Option<Note>, call: CallLine<'_>)
 {
     if let Some(note) = held {
         note.call(call.word, call.fields, call.line);
+    }
+}
+
+/// What a note is once a report names its request, put in its place.
+#[inline(always)]
+fn report_in_place(held: &mut Option<Note>, report: ReportLine<'_>)
+    ensures { held.new ≡ option_map (reported_note report.entry.word report.entry.line report.entry.completed) held.old }
+{
+    if let Some(note) = held {
+        note.report(report.word, report.line, report.completed);
     }
 }
 
@@ -111,6 +121,30 @@ impl Notes {
             return false;
         }
         call_in_place(&mut self.near[place], call);
+        true
+    }
+
+    /// Notes that a report names a number in a field of this form, where its note is in the list and the report may;
+    /// says whether it did.
+    #[inline(always)]
+    pub(crate) fn report_near(&mut self, report: ReportLine<'_>, form: Form, number: u32) -> bool
+        ensures { MatchBool result
+            ((may_report report.entry.line form (note_at self.old number) ≡ true)
+            × ((other : ℕ) → note_at self.new other
+            ≡ (if number == other
+            then by_report report.entry.word report.entry.line report.entry.completed number form
+            (note_at self.old number)
+            else note_at self.old other)))
+            (self.new ≡ self.old) }
+    {
+        let place = number as usize;
+        let Some(Some(note)) = self.near.get(place) else {
+            return false;
+        };
+        if !may_report(report.line, form, note) {
+            return false;
+        }
+        report_in_place(&mut self.near[place], report);
         true
     }
 

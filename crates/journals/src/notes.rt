@@ -255,7 +255,44 @@ pub(crate) fn note_call(notes: &mut Notes, call: CallLine<'_>) -> Result<(), Lin
     Ok(())
 }
 
-/// Notes what a report says of one number; says whether it may.
+/// Whether the report of a line may name a request of which this is noted, in a field of this form.
+#[inline(always)]
+pub(crate) fn may_report(line: u32, form: Form, note: &Note) -> bool
+    ensures { result ≡ may_report line form (Some note.now) }
+{
+    matches!(form, Form::Request) && !note.is_message && !note.is_reported(line)
+}
+
+/// Notes what a report says of one number, wherever its note is.
+#[inline(never)]
+fn report_any(
+    notes: &mut Notes,
+    report: ReportLine<'_>,
+    form: Form,
+    number: u32,
+) -> Result<(), LineFault>
+    requires { is_of_request form ≡ true }
+    ensures ok { OnOk result (may_report report.entry.line form (note_at notes.old number) ≡ true) }
+    ensures notes { OnOk result ((other : ℕ) → note_at notes.new other
+        ≡ (if number == other
+        then by_report report.entry.word report.entry.line report.entry.completed number form
+        (note_at notes.old number)
+        else note_at notes.old other)) }
+    ensures fault { IfErr result (IsFault Request
+        (may_report report.entry.line form (note_at notes.old number) ≡ false)) }
+{
+    let Some(mut note) = notes.get(number) else {
+        return Err(LineFault::Journal(JournalFaultKind::Request));
+    };
+    if !may_report(report.line, form, &note) {
+        return Err(LineFault::Journal(JournalFaultKind::Request));
+    }
+    note.report(report.word, report.line, report.completed);
+    notes.put(number, note)?;
+    Ok(())
+}
+
+/// Notes what a report says of one number.
 #[inline(always)]
 fn use_in_report(
     notes: &mut Notes,
@@ -273,18 +310,10 @@ fn use_in_report(
     ensures fault { IfErr result (IsFault Request
         (may_report report.entry.line form (note_at notes.old number) ≡ false)) }
 {
-    let Form::Request = form else {
-        return Err(LineFault::Journal(JournalFaultKind::Request));
-    };
-    let Some(note) = notes.get(number) else {
-        return Err(LineFault::Journal(JournalFaultKind::Request));
-    };
-    if note.is_message || note.is_reported(report.line) {
-        return Err(LineFault::Journal(JournalFaultKind::Request));
+    if notes.report_near(report, form, number) {
+        return Ok(());
     }
-    let note = note.when_reported(report.word, report.line, report.completed);
-    notes.put(number, note)?;
-    Ok(())
+    report_any(notes, report, form, number)
 }
 
 /// Notes what a report says of the requests that it names.

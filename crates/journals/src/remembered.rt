@@ -6,6 +6,7 @@
 //! complete one don't come again. Where fewer than half of the others are found, none is sought for a while.
 
 ghost use Rattle.std.specs.Prelude.{◌≡◌, ◌<◌, List, IfSome};
+ghost use Rattle.std.specs.Str.{bytes_eq};
 ghost use Rattle.journals.specs.declared.field.Field.{Field};
 ghost use Rattle.journals.specs.inner.Remembered.{IsHeldLine, AreHeld};
 
@@ -59,6 +60,24 @@ fn may_come_again(line: &[u8]) -> bool {
     !matches!(line, [b'i' | b'w', ..] | [b'=', b'd', ..])
 }
 
+/// Whether two lines are the same, compared by four bytes at once as long as there are so many.
+#[inline(always)]
+fn are_same_lines(mut one: &[u8], mut other: &[u8]) -> bool
+    ensures { result ≡ bytes_eq one.entry.now other.entry.now }
+{
+    while let Some((front, rest)) = one.split_first_chunk::<4>() {
+        let Some((its_front, its_rest)) = other.split_first_chunk::<4>() else {
+            return are_same(one, other);
+        };
+        if *front != *its_front {
+            return are_same(one, other);
+        }
+        one = rest;
+        other = its_rest;
+    }
+    are_same(one, other)
+}
+
 impl Remembered {
     pub(crate) fn new() -> Remembered
         ensures { (fields : List Field) → AreHeld fields result.known }
@@ -79,7 +98,7 @@ impl Remembered {
             return None;
         };
         let text = known.bytes.get(..usize::from(known.len))?;
-        if known.ranks != ranks || !are_same(text, line) {
+        if known.ranks != ranks || !are_same_lines(text, line) {
             return None;
         }
         Some(known.packed)

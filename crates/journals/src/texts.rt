@@ -41,12 +41,33 @@ struct Front {
     number: u32,
 }
 
+/// The only digit before the first space of some bytes, or of all of them where there is no space.
+#[inline(always)]
+fn read_digit(bytes: &[u8]) -> Option<Front>
+    ensures { IfSome result (λ front. IsFront GREATEST bytes.now front.count front.number) }
+{
+    if bytes.is_empty() || (bytes.len() > 1 && bytes[1] != b' ') {
+        return None;
+    }
+    let digit = bytes[0];
+    if !digit.is_ascii_digit() {
+        return None;
+    }
+    Some(Front {
+        count: 1,
+        number: u32::from(digit) - 48,
+    })
+}
+
 /// The digits before the first space of some bytes, or all of them where there is no space. None where another byte
 /// comes first, or where they write a number above the greatest one.
 #[inline(always)]
 fn read_front(bytes: &[u8]) -> Option<Front>
     ensures { IfSome result (λ front. IsFront GREATEST bytes.now front.count front.number) }
 {
+    if let Some(front) = read_digit(bytes) {
+        return Some(front);
+    }
     let mut number: u64 = 0;
     for at in 0..bytes.len() {
         let byte = bytes[at];

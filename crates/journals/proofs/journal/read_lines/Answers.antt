@@ -27,7 +27,7 @@ loop-preserved g c =
     let passes = rw c.in-Ok-true.field-0-test at c.in-Ok-true.ensures.passes in
     let on = rw c.in-Ok-true.field-0-test at c.in-Ok-true.ensures.lines in
     let more : c.read_next.new.self.number ≡ c.loop.reading.number + 1 = next in
-    let goes : GoesOn (lines_to_come (owner_of c.loop.reading.known) c.loop.reading.lines (coming c.loop.reading.window (text_left g.I.Input.left c.loop.text))) (lines_to_come (owner_of c.loop.reading.known) c.read_next.new.self.lines (coming c.read_next.new.self.window (text_left g.I.Input.left c.read_next.new.text))) = on in
+    let goes : GoesOn (lines_to_come (owner_of c.loop.reading.known) c.loop.reading.lines (coming c.loop.window (text_left g.I.Input.left c.loop.text))) (lines_to_come (owner_of c.loop.reading.known) c.read_next.new.self.lines (coming c.read_next.new.window (text_left g.I.Input.left c.read_next.new.text))) = on in
     record {
       owner = c.read_next.ensures.owner ∙ c.loop.invariant.owner;
       ranks = ap (λ owner. owner.ranks) c.read_next.ensures.owner ∙ c.loop.invariant.ranks ∙ sym c.read_next.ensures.ranks;
@@ -35,7 +35,7 @@ loop-preserved g c =
       some = subst (λ n. 1 ≤ n) (sym c.read_next.ensures.ranks) c.loop.invariant.some;
       number = c.in-Ok-true.ensures.number;
       passed = (c.loop.invariant.passed.0 + 1, more ∙ one_more c.loop.reading.number c.args.reading.number c.loop.invariant.passed.0 c.loop.invariant.passed.1, passes_both _ _ _ c.loop.invariant.passed.0 1 c.loop.invariant.passed.2 passes);
-      on = goes_further _ _ _ c.loop.invariant.on (subst (λ (owner : Owner). GoesOn (lines_to_come (owner_of c.loop.reading.known) c.loop.reading.lines (coming c.loop.reading.window (text_left g.I.Input.left c.loop.text))) (lines_to_come owner c.read_next.new.self.lines (coming c.read_next.new.self.window (text_left g.I.Input.left c.read_next.new.text)))) (sym c.read_next.ensures.owner) goes);
+      on = goes_further _ _ _ c.loop.invariant.on (subst (λ (owner : Owner). GoesOn (lines_to_come (owner_of c.loop.reading.known) c.loop.reading.lines (coming c.loop.window (text_left g.I.Input.left c.loop.text))) (lines_to_come owner c.read_next.new.self.lines (coming c.read_next.new.window (text_left g.I.Input.left c.read_next.new.text)))) (sym c.read_next.ensures.owner) goes);
     }
   where
     one_more : (number first count : ℕ) → number ≡ first + count → number + 1 ≡ first + (count + 1)
@@ -44,8 +44,8 @@ loop-preserved g c =
 pub returns-in-Ok-false-clause-lines : goal.returns-in-Ok-false-clause-lines
 returns-in-Ok-false-clause-lines g c =
     let read = rw c.in-Ok-false.field-0-test at c.in-Ok-false.ensures.lines in
-    let answered : AnswersComing (lines_to_come (owner_of c.loop.reading.known) c.loop.reading.lines (coming c.loop.reading.window (text_left g.I.Input.left c.loop.text))) (Ok c.read_next.new.self.lines) = read in
-    let fitted = subst (λ (lines : List Line). AnswersComing (lines_to_come (owner_of c.loop.reading.known) c.loop.reading.lines (coming c.loop.reading.window (text_left g.I.Input.left c.loop.text))) (Ok lines)) (sym c.fit.ensures) answered in
+    let answered : AnswersComing (lines_to_come (owner_of c.loop.reading.known) c.loop.reading.lines (coming c.loop.window (text_left g.I.Input.left c.loop.text))) (Ok c.read_next.new.self.lines) = read in
+    let fitted = subst (λ (lines : List Line). AnswersComing (lines_to_come (owner_of c.loop.reading.known) c.loop.reading.lines (coming c.loop.window (text_left g.I.Input.left c.loop.text))) (Ok lines)) (sym c.fit.ensures) answered in
     checked_last _ _ c.fit.new.lines _ c.loop.invariant.on fitted c.checked-lines.ensures.lines
 
 pub returns-in-Ok-false-clause-cut : goal.returns-in-Ok-false-clause-cut

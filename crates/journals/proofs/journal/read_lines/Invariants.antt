@@ -14,6 +14,6 @@ invariant-loop g l = record {
   knows : Knows l.reading.lines l.reading.known;
   some : 1 ≤ l.reading.ranks;
   number : l.reading.number ≡ length l.reading.lines + 2;
-  passed : (count : ℕ) × (l.reading.number ≡ l.initial.reading.number + count) × Passes (prepend_known l.initial.reading.window (text_left g.I.Input.left l.fn.text)) (prepend_known l.reading.window (text_left g.I.Input.left l.text)) count;
-  on : GoesOn (lines_to_come (owner_of l.initial.reading.known) l.initial.reading.lines (coming l.initial.reading.window (text_left g.I.Input.left l.fn.text))) (lines_to_come (owner_of l.reading.known) l.reading.lines (coming l.reading.window (text_left g.I.Input.left l.text)));
+  passed : (count : ℕ) × (l.reading.number ≡ l.initial.reading.number + count) × Passes (prepend_known l.fn.window (text_left g.I.Input.left l.fn.text)) (prepend_known l.window (text_left g.I.Input.left l.text)) count;
+  on : GoesOn (lines_to_come (owner_of l.initial.reading.known) l.initial.reading.lines (coming l.fn.window (text_left g.I.Input.left l.fn.text))) (lines_to_come (owner_of l.reading.known) l.reading.lines (coming l.window (text_left g.I.Input.left l.text)));
 }
