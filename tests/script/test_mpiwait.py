@@ -6,6 +6,7 @@ import signal
 import stat
 import subprocess
 import tempfile
+import time
 import unittest
 from pathlib import Path
 from unittest.mock import patch
@@ -15,8 +16,7 @@ LINE = "mpiwait: this answer comes of code that isn't proved on this machine\n"
 # It notes its words, one a line, and plays a try; asked to run the program, it makes one that shows its own.
 RT = f"""#!/bin/sh
 printf '%s\\n' "$@" > "$PLAYED/words"
-printf '%s\\n' "$*" >> "$PLAYED/calls"
-[ "$1" != all ] || exit "${{ALL:-0}}"
+printf '%s\\n' "rt $*" >> "$PLAYED/calls"
 if [ "$1" = run ]; then
     mkdir -p out && cp {shutil.which("echo")} out/mpiwait
     exit
@@ -24,6 +24,20 @@ fi
 cat "$PLAYED/out"
 cat "$PLAYED/err" >&2
 exit "$(cat "$PLAYED/status")"
+"""
+# The kit's prover, which notes the crates that it is asked for, and its linker.
+RATTLE = """#!/bin/sh
+printf '%s\\n' "$3" >> "$PLAYED/calls"
+printf '%s\\n' "$*" > "$PLAYED/words-of-$3"
+[ -z "$SLOW" ] || sleep "$SLOW"
+[ "$3" != "$FAILS" ] || exit 1
+for last; do :; done
+touch "$last"
+"""
+LINK = f"""#!/bin/sh
+echo link >> "$PLAYED/calls"
+while [ "$1" != -o ]; do shift; done
+cp {shutil.which("echo")} "$2"
 """
 
 
@@ -37,18 +51,26 @@ class Script(unittest.TestCase):
         for name in ("src", "specs", "proofs"):
             (crate / name).mkdir(parents=True)
         shutil.copytree(TOP / "tools/texts", self.top / "tools/texts")
-        (self.top / "tools/companions").mkdir()
-        shutil.copy(TOP / "tools/companions/unproved.py", self.top / "tools/companions/unproved.py")
-        for name in ("mpiwait", "HANDLES", "crates.txt"):
+        for name in ("tools/companions", "release"):
+            (self.top / name).mkdir()
+        for name in ("mpiwait", "HANDLES", "tools/companions/unproved.py", "release/prove"):
             shutil.copy(TOP / name, self.top / name)
+        (self.top / "crates.txt").write_text("# crates\nmpicall: memchr\njournals may_wait=6: mpicall memchr\n"
+                                             "mpiwait: journals\nmpiwait_rows: mpiwait\n")
+        for name in ("mpicall/src/lib.rt", "mpicall/must-fail/one.edit", "mpicall/out/x", "journals/src/lib.rt",
+                     "mpiwait/src/main.rt", "mpiwait/args", "mpiwait_rows/src/main.rt"):
+            (self.top / "crates" / name).parent.mkdir(parents=True, exist_ok=True)
+            (self.top / "crates" / name).write_text("")
         self.here = self.folder / "here"
         self.here.mkdir()
         for name in ("head", "r0", "8", "-x"):
             (self.here / name).write_text("finalize\n")
         (self.folder / "bin").mkdir()
-        rt = self.folder / "bin/rt"
-        rt.write_text(RT)
-        rt.chmod(rt.stat().st_mode | stat.S_IXUSR)
+        (self.folder / "KIT-ID").write_text("a kit")
+        for name, text in (("rt", RT), ("rattle", RATTLE), ("rattle-link", LINK)):
+            file = self.folder / "bin" / name
+            file.write_text(text)
+            file.chmod(file.stat().st_mode | stat.S_IXUSR)
 
     def play(self, out="", err="", status=0, notes=None):
         """What the next try gives: by default an answer of the program."""
@@ -255,7 +277,8 @@ class Script(unittest.TestCase):
         self.assertIsNone(self.given())
 
     def test_a_failed_build_is_no_verdict(self):
-        (self.folder / "bin/rt").write_text("#!/bin/sh\necho no proof of it\nexit 1\n")
+        for name in ("rt", "rattle"):
+            (self.folder / "bin" / name).write_text("#!/bin/sh\necho no proof of it\nexit 1\n")
         status, out, err = self.run_script("check", "head", "r0")
         self.assertEqual((status, out), (4, ""))
         self.assertIn("no proof of it\nmpiwait: the build failed", err)
@@ -268,11 +291,14 @@ class Script(unittest.TestCase):
         self.assertIn("can't be run\n", err)
 
     def test_each_crate_that_is_proved_is_named(self):
-        rt = self.folder / "bin/rt"
-        rt.write_text(rt.read_text().replace("mkdir -p out", "echo 'crate mpicall: modules 3'; sleep 1.5; mkdir -p out"))
-        status, out, err = self.run_script("check", "head", "r0")
-        self.assertEqual((status, out), (0, "check head r0\n"))
-        self.assertIn("mpiwait: mpicall is proved\n", err)
+        said = "echo 'crate mpicall: modules 3'; sleep 1.5; mkdir -p out"
+        (self.folder / "bin/rt").write_text(RT.replace("mkdir -p out", said))
+        for variables in ({"SLOW": "1.5"}, {"FAILS": "mpicall"}):
+            shutil.rmtree(self.top / "crates/mpiwait/out", ignore_errors=True)
+            with patch.dict(os.environ, variables):
+                status, out, err = self.run_script("check", "head", "r0")
+            self.assertEqual((status, out), (0, "check head r0\n"))
+            self.assertIn("mpiwait: mpicall is proved\n", err)
 
     def test_the_words_are_the_programs(self):
         for words in (["run"], ["check", "a run", "", "-x"], ["lint"]):
@@ -281,28 +307,75 @@ class Script(unittest.TestCase):
     def test_the_first_build_names_the_way_without_a_proof(self):
         status, out, err = self.run_script("check", "head", "r0")
         self.assertEqual((status, out), (0, "check head r0\n"))
-        self.assertIn("proving and building it, this first time only: half an hour; "
+        self.assertIn("proving and building it, this first time only: up to an hour; "
                       "./mpiwait --unproved .. answers in a minute\n", err)
 
-    def test_crates_are_proved_at_once_and_then_the_program_is_built(self):
-        for status in ("0", "1"):
-            with patch.dict(os.environ, {"ALL": status}):
-                shutil.rmtree(self.top / "crates/mpiwait/out", ignore_errors=True)
-                (self.folder / "calls").unlink(missing_ok=True)
-                self.assertEqual(self.run_script("check", "head", "r0")[:2], (0, "check head r0\n"))
-                first, second = (self.folder / "calls").read_text().splitlines()
-                self.assertRegex(first, "^all check --jobs [1-9][0-9]*$")
-                self.assertLessEqual(int(first.split()[-1]), os.cpu_count())
-                self.assertEqual(second, "run -- --version")
+    def build(self, **variables):
+        """What a build calls, whose program answers."""
+        (self.top / "crates/mpiwait/out/mpiwait").unlink(missing_ok=True)
+        (self.folder / "calls").unlink(missing_ok=True)
+        with patch.dict(os.environ, variables):
+            self.assertEqual(self.run_script("check", "head", "r0")[:2], (0, "check head r0\n"))
+        return (self.folder / "calls").read_text().splitlines()
+
+    def test_a_first_build_proves_the_programs_crates_each_after_those_it_uses(self):
+        self.assertEqual(self.build(), ["mpicall", "journals", "mpiwait", "link"])
+        made, kit = self.top / "crates/mpiwait/out/crates", self.folder
+        before = f"--extern std={kit}/rlibs/std.rlib --extern mpicall={made}/mpicall.rlib"
+        behind = f"-L dependency={kit}/rlibs -L dependency={made} --jobs 1 --links journals= " \
+            f"--antt-project {kit}/rattle/logic/antt-project.json --logic-built {kit}/logic_built"
+        self.assertEqual((self.folder / "words-of-journals").read_text(), "build --crate-name journals src/lib.rt "
+                         f"{before} --extern memchr={kit}/rlibs/memchr.rlib {behind} --statements "
+                         f"-o {made}/journals.rlib\n")
+
+    def test_what_was_proved_is_not_proved_again(self):
+        self.build()
+        self.assertEqual(self.build(), ["link"])
+        (self.top / "crates/journals/src/lib.rt").write_text("fn one() {}")
+        self.assertEqual(self.build(), ["journals", "mpiwait", "link"])
+        (self.folder / "KIT-ID").write_text("another kit")
+        self.assertEqual(self.build(), ["mpicall", "journals", "mpiwait", "link"])
+
+    def test_what_was_proved_over_another_build_is_proved_again(self):
+        self.build()
+        below = self.top / "crates/mpicall/src/lib.rt"
+        below.write_text("fn one() {}")
+        self.assertEqual(self.build(FAILS="journals"), ["mpicall", "journals", "journals", "rt run -- --version"])
+        below.write_text("")
+        self.assertEqual(self.build(), ["mpicall", "journals", "mpiwait", "link"])
+
+    def test_where_that_fails_twice_rt_builds_the_program(self):
+        self.assertEqual(self.build(FAILS="journals"), ["mpicall", "journals", "journals", "rt run -- --version"])
+
+    def test_a_build_that_is_ended_goes_on_where_it_was(self):
+        environment = {**os.environ, "PLAYED": str(self.folder), "PATH": f"{self.folder / 'bin'}:{os.environ['PATH']}"}
+        rattle = self.folder / "bin/rattle"
+        rattle.write_text(RATTLE.replace('[ -z "$SLOW" ]', '[ "$3" != journals ]').replace(
+            'sleep "$SLOW"', '{ echo $$ > "$PLAYED/prover"; touch "$PLAYED/asleep"; exec sleep 60; }'))
+        words = [self.top / "release/prove", self.top / "crates/mpiwait/out/mpiwait", "2"]
+        with subprocess.Popen(words, env=environment, stderr=subprocess.DEVNULL) as build:
+            self.addCleanup(build.kill)
+            while not (self.folder / "asleep").exists():
+                time.sleep(0.05)
+            build.terminate()
+            self.assertNotEqual(build.wait(10), 0)
+        with self.assertRaises(ProcessLookupError):
+            os.kill(int((self.folder / "prover").read_text()), 0)
+        rattle.write_text(RATTLE)
+        self.assertEqual(self.build(), ["journals", "mpiwait", "link"])
+
+    def test_where_checks_kept_work_it_is_taken_over(self):
+        (self.top / "crates/mpicall/out/incremental").mkdir(parents=True)
+        self.assertEqual(self.build(), ["rt run -- --version"])
 
     def test_one_crate_at_once_where_nothing_tells_how_many_may_be(self):
         for name in ("awk", "nproc"):
             (self.folder / "bin" / name).write_text("#!/bin/sh\nexit 1\n")
             (self.folder / "bin" / name).chmod(0o755)
-            shutil.rmtree(self.top / "crates/mpiwait/out", ignore_errors=True)
-            (self.folder / "calls").unlink(missing_ok=True)
-            self.assertEqual(self.run_script("check", "head", "r0")[:2], (0, "check head r0\n"))
-            self.assertEqual((self.folder / "calls").read_text().splitlines()[0], "all check --jobs 1")
+        prove = self.top / "release/prove"
+        prove.write_text(f"#!/bin/sh\necho $2 >> '{self.folder}/jobs'\nexit 1\n")
+        self.assertEqual(self.build(), ["rt run -- --version"])
+        self.assertEqual((self.folder / "jobs").read_text(), "1\n1\n")
 
     def test_the_proved_program_is_used_where_it_is_built(self):
         self.run_script("check", "head", "r0")
