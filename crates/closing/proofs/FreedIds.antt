@@ -6,9 +6,11 @@ use Rattle.std.specs.List.{cons_option, list_any}
 use Rattle.std.proofs.lemmas.List.{append-nil, take_all}
 use Rattle.mpicall.specs.Word.{or_else}
 use Rattle.journals.specs.Lines.{Line}
-use Rattle.journals.specs.Taking.{word_at, fields_at}
+use Rattle.journals.specs.Taking.{frees_request, word_at, fields_at}
 use Rattle.journals.specs.declared.field.Field.{Field}
 use Rattle.journals.specs.declared.word.CallWord.{CallWord}
+use Rattle.journals.specs.declared.word.CallWord.TheVariants as call
+use Rattle.journals.specs.declared.word.Word.{Word}
 use Rattle.journals.specs.declared.word.Word.TheVariants.{Call}
 use Rattle.closing.specs.Called.{Called, called}
 use Rattle.closing.specs.Entry.{id_of, matched_by, matched_in, matched_message}
@@ -41,6 +43,27 @@ unnamed_kept lines (Sink own wanted is_known) unnamed = none_among (freed lines)
 cons_later : (found : Option ℕ) (xs ys : List ℕ) → cons_option found (xs ++ ys) ≡ cons_option found xs ++ ys
 cons_later None xs ys = refl
 cons_later (Some x) xs ys = refl
+
+-- lines without a call that frees a request free none
+none_by : (word : Word) (fields : List Field) → frees_request word ≡ false → freed_in word fields ≡ None
+none_by (Call call.RequestFree) fields none = cc
+none_by word fields none = refl
+
+none_first : (word : Word) (fields : List Field) (xs : List ℕ) (rest : Bool) → (frees_request word || rest) ≡ false → (rest ≡ false → [] ≡ xs) → [] ≡ cons_option (freed_in word fields) xs
+none_first word fields xs rest none more =
+    more (or_next (frees_request word) rest none) ∙ ap (λ found. cons_option found xs) (sym (none_by word fields (or_first (frees_request word) rest none)))
+  where
+    or_first : (a b : Bool) → (a || b) ≡ false → a ≡ false
+    or_first true b is = cc
+    or_first false b is = refl
+
+    or_next : (a b : Bool) → (a || b) ≡ false → b ≡ false
+    or_next true b is = cc
+    or_next false b is = is
+
+pub none_freed : (lines : List Line) → list_any (λ line. frees_request line.word) lines ≡ false → [] ≡ freed lines
+none_freed [] none = refl
+none_freed (x ∷ xs) none = none_first x.word x.fields (freed xs) (list_any (λ line. frees_request line.word) xs) none (none_freed xs)
 
 freed_step : (lines : List Line) (n : ℕ) → freed (take (suc n) lines) ≡ freed (take n lines) ++ cons_option (freed_at lines n) []
 freed_step [] zero = refl

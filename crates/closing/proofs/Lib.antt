@@ -10,6 +10,7 @@ pub mod InsertLemmas
 pub mod ListLemmas
 pub mod OutcomeLemmas
 pub mod PlaceLemmas
+mod OnWorldLemmas
 pub mod PlainLemmas
 pub mod RankNumberLemmas
 pub mod RequestLemmas

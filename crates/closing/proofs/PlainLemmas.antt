@@ -14,7 +14,7 @@ use Rattle.closing.specs.inner.Words.{counts, is_plain}
 use Rattle.closing.specs.declared.rank_comms.RankComms.{RankComms as CommsCode}
 
 -- what the rank has after such a call
-plain_after : (comms : RankComms) (it : Called) → counts it ≡ false → after_call comms it ≡ record comms { wave = None; own = None }
+pub plain_after : (comms : RankComms) (it : Called) → counts it ≡ false → after_call comms it ≡ record comms { wave = None; own = None }
 plain_after comms (Sends mode it) none = refl
 plain_after comms (Collects collective comm root) none = cc
 plain_after comms (StartsCollective request collective comm root) none = cc

@@ -9,7 +9,7 @@ ghost use Rattle.mpicall.specs.declared.call.Mode.{Mode as ModeSaid};
 ghost use Rattle.closing.specs.Made.{may_give};
 ghost use Rattle.closing.specs.inner.Views.{awaited_view, called_view, sent_view};
 ghost use Rattle.closing.specs.inner.Walked.{AreRequests};
-ghost use Rattle.closing.specs.inner.Words.{by_collective, by_comm, by_message, counts, is_plain};
+ghost use Rattle.closing.specs.inner.Words.{by_collective, by_comm, by_message, counts, is_bare, is_plain};
 
 use journals::field::Field;
 use journals::word::CallWord;
@@ -485,6 +485,22 @@ pub(crate) fn is_plain(word: CallWord) -> bool
     )
 }
 
+/// Whether such a call names nothing.
+pub(crate) fn is_bare(word: CallWord) -> bool
+    ensures { result ≡ is_bare word }
+{
+    matches!(
+        word,
+        CallWord::Init
+            | CallWord::Finalize
+            | CallWord::Abort
+            | CallWord::Exit
+            | CallWord::Full
+            | CallWord::Stopped
+            | CallWord::Cut
+    )
+}
+
 fn sent_on(fields: &[Field]) -> Option<u32>
     ensures { (mode : ModeSaid) → result ≡ comm_of (sends mode fields.now) }
 {
@@ -550,7 +566,8 @@ fn started_exchange_on(fields: &[Field]) -> Option<u32>
     }
 }
 
-/// The rank's own number of the communicator that such a call is on.
+/// The rank's own number of the communicator that a plain call is on.
+#[inline(always)]
 pub(crate) fn comm_in(word: CallWord, fields: &[Field]) -> Option<u32>
     requires { is_plain word ≡ true }
     ensures { result ≡ comm_of (called word fields.now) }

@@ -46,12 +46,15 @@ fn freed_by(lines: &Lines, line: u32) -> Option<u32>
     }
 }
 
-/// The requests that some lines free.
-#[tactic(auto, using(crate::proofs::FreedIds::freed_some, crate::proofs::FreedIds::freed_none, crate::proofs::FreedIds::freed_all))]
+/// The requests that some lines free. In most journals none does.
+#[tactic(auto, using(crate::proofs::FreedIds::none_freed, crate::proofs::FreedIds::freed_some, crate::proofs::FreedIds::freed_none, crate::proofs::FreedIds::freed_all))]
 fn freed_in(alloc: Global, lines: &Lines) -> Result<Vec<u32>, AllocError>
     ensures { IfOk result (λ requests. HavePlaces lines.now → requests.items ≡ freed lines.now) }
 {
     let mut requests = Vec::new(alloc);
+    if !lines.have_free() {
+        return Ok(requests);
+    }
     for line in 0..count_of(lines) {
         if let Some(request) = freed_by(lines, line) {
             requests.push(request)?;

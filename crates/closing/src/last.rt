@@ -51,6 +51,7 @@ impl Reports {
 }
 
 /// The word of a line, where that is a report.
+#[inline(always)]
 fn report_at(lines: &Lines, line: u32) -> Option<ReportWord>
     ensures { result ≡ report_if (word_at lines.now line) }
 {

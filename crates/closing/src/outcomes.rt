@@ -87,6 +87,7 @@ impl Outcomes {
     }
 
     /// Takes the line at a place, where that is a report.
+    #[inline(always)]
     #[tactic(auto, using(crate::proofs::RequestReportLemmas::report_here, crate::proofs::RequestReportLemmas::call_here, crate::proofs::RequestReportLemmas::nothing_here))]
     fn take_line(&mut self, lines: &Lines, line: u32) -> Result<(), AllocError>
         ensures { OnOk result ((other : ℕ) → outcome_at self.new other ≡ outcome_at_line (slice_get lines.now line) line other (outcome_at self.old other)) }

@@ -16,13 +16,14 @@ ghost use Rattle.closing.specs.RankComms as say;
 ghost use Rattle.closing.specs.inner.Holds.{HasComms, brings, report_taken};
 ghost use Rattle.closing.specs.inner.Words.{is_plain};
 ghost use Rattle.closing.specs.inner.Noted.{HavePlaces, IsLastCall};
-ghost use Rattle.closing.specs.inner.Surveyed.{HasGot, HasRank, IsSurveyed, IsSurveyedTo, Keeps, TakesRank, IsFound, Await, HaveNone, as_list, gives_at, journal_of_code, names_by, names_from, run_of_journals, inferred_with, waits_at, waits_for, with_name};
+ghost use Rattle.closing.specs.inner.Surveyed.{HasGot, HasRank, IsSurveyed, IsSurveyedTo, Keeps, TakesRank, IsFound, Await, HaveNone, as_list, gives_at, is_world, is_world_if_any, journal_of_code, keep_to_world, keeps_at, name_world, names_at_place, names_by, names_from, run_of_journals, inferred_with, waits_at, waits_for, with_name, world_place};
 ghost use Rattle.closing.specs.declared.keys.Wave.{Wave as WaveCode};
+ghost use Rattle.closing.specs.declared.rank_comms.RankComms.{RankComms as CommsCode};
 ghost use Rattle.closing.specs.Table.{Table};
 ghost use Rattle.closing.specs.inner.Table.{HasKey, IsPlaceOf, IsTable, IsWaveOf, ranks_in};
 
-use crate::called::{comm_in, is_plain, read_call};
-use crate::keys::{Key, Keys, Wave};
+use crate::called::{comm_in, is_bare, is_plain, read_call};
+use crate::keys::{Key, Keys, WORLD, Wave};
 use crate::last::{LastCall, last_call_of};
 use crate::places::{checked_place, count_of};
 use crate::rank_comms::RankComms;
@@ -229,6 +230,31 @@ impl Survey {
         Ok(())
     }
 
+    /// Takes the lines of a journal that names the world alone.
+    fn take_on_world(&mut self, lines: &Lines)
+        ensures same { self.new ≡ record self.old { named = self.new.named } }
+        ensures takes { (before names : List SaidKey) (rank : ℕ) (comms : CommsCode) → HavePlaces lines.now → keep_to_world lines.now ≡ true →
+            HasRank before names (comms_first rank) self.old comms →
+            Keeps before (names ++ names_from (comms_first rank) lines.now) (after_lines (comms_first rank) lines.now) self.old self.new comms }
+    {
+        let key = world_in(lines);
+        self.name(key);
+    }
+
+    /// Takes the lines of a rank's journal. Most journals name the world alone.
+    fn take_all(&mut self, comms: &mut RankComms, lines: &Lines) -> Result<(), AllocError>
+        ensures same { self.new ≡ record self.old { keys = self.new.keys; named = self.new.named; got = self.new.got } }
+        ensures takes { OnOk result ((before names : List SaidKey) (rank : ℕ) → HavePlaces lines.now → HasRank before names (comms_first rank) self.old comms.old →
+            Keeps before (names ++ names_from (comms_first rank) lines.now) (after_lines (comms_first rank) lines.now) self.old self.new comms.new) }
+    {
+        if keep_to_world(lines) {
+            self.take_on_world(lines);
+            return Ok(());
+        }
+        self.take_lines(comms, lines)?;
+        Ok(())
+    }
+
     /// What the next rank has before all lines of its journal.
     fn start_rank(&mut self, rank: u32) -> Result<RankComms, AllocError>
         ensures same { self.new ≡ record self.old { keys = self.new.keys; named = self.new.named; got = self.new.got } }
@@ -256,7 +282,7 @@ impl Survey {
         match journal {
             Some(journal) => {
                 checked_place(journal.lines.count())?;
-                self.take_lines(&mut comms, &journal.lines)?;
+                self.take_all(&mut comms, &journal.lines)?;
                 Ok(wave_of_last(journal, &comms))
             }
             None => Ok(None),
@@ -312,6 +338,79 @@ impl Survey {
         survey.find_inferred();
         Ok(survey)
     }
+}
+
+/// Whether this is the world, or no communicator.
+#[inline(always)]
+fn is_world_if_any(comm: Option<u32>) -> bool
+    ensures { result ≡ is_world_if_any comm }
+{
+    match comm {
+        Some(comm) => comm == 0,
+        None => true,
+    }
+}
+
+#[inline(always)]
+fn is_world(comm: Option<u32>) -> bool
+    ensures { result ≡ is_world comm }
+{
+    match comm {
+        Some(comm) => comm == 0,
+        None => false,
+    }
+}
+
+/// Whether a line brings no communicator, counts on none, and names none but the world.
+#[inline(always)]
+fn keeps_to_world(lines: &Lines, line: u32) -> bool
+    ensures { result ≡ keeps_at lines.now line }
+{
+    match lines.word(line) {
+        Some(Word::Call(word)) => {
+            if is_plain(word) {
+                is_world_if_any(comm_in(word, lines.fields(line)))
+            } else {
+                is_bare(word)
+            }
+        }
+        Some(Word::Report(word)) => !brings(word),
+        None => true,
+    }
+}
+
+/// Whether all lines do.
+fn keep_to_world(lines: &Lines) -> bool
+    ensures { HavePlaces lines.now → result ≡ true → keep_to_world lines.now ≡ true }
+{
+    for line in 0..count_of(lines) {
+        if !keeps_to_world(lines, line) {
+            return false;
+        }
+    }
+    true
+}
+
+/// Whether a line is that of a call on the world that counts nowhere.
+fn names_world(lines: &Lines, line: u32) -> bool
+    ensures { result ≡ names_at_place lines.now line }
+{
+    match lines.word(line) {
+        Some(Word::Call(word)) => is_plain(word) && is_world(comm_in(word, lines.fields(line))),
+        _ => false,
+    }
+}
+
+/// The key of the world, if one of the lines names it.
+fn world_in(lines: &Lines) -> Option<u32>
+    ensures { HavePlaces lines.now → result ≡ world_place (name_world lines.now) }
+{
+    for line in 0..count_of(lines) {
+        if names_world(lines, line) {
+            return Some(WORLD);
+        }
+    }
+    None
 }
 
 /// Whether the last call of a rank waits for what a wave made.

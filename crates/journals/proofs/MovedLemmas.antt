@@ -78,3 +78,14 @@ none_left lines from zero [] is = refl
 none_left lines from (suc n) [] is = refl
 none_left lines from zero (line ∷ all) is = absurd (omega arith)
 none_left lines from (suc n) (line ∷ all) is = none_left lines from n all (omega arith)
+
+-- lines that report no moved receive report none wrongly
+one_less : (lines : List Line) (from : ℕ) (line : Line) (all : List Line) (here : Bool) → is_report report.Moved line.word ≡ here
+    → (here || list_any (λ line. is_report report.Moved line.word) all) ≡ false
+    → (list_any (λ line. is_report report.Moved line.word) all ≡ false → first_moved_wrongly lines (from + 1) all ≡ None) → first_moved_wrongly lines from (line ∷ all) ≡ None
+one_less lines from line all true is none rest = cc
+one_less lines from line all false is none rest = rw is (rest none)
+
+pub none_moved : (lines : List Line) (from : ℕ) (all : List Line) → list_any (λ line. is_report report.Moved line.word) all ≡ false → first_moved_wrongly lines from all ≡ None
+none_moved lines from [] none = refl
+none_moved lines from (line ∷ all) none = one_less lines from line all (is_report report.Moved line.word) refl none (none_moved lines (from + 1) all)

@@ -1,5 +1,6 @@
 -- The lines that are held, as their fields grow and a line is put after them.
-use Rattle.std.proofs.Common.{◌≡◌, ℕ, zero, suc, ◌+◌, ◌-◌, ◌≤◌, List, [], ◌∷◌, ◌++◌, length, take, drop, ap, ◌∙◌, refl, arith, length-append, Some, None, Result, Ok, Err, slice_get}
+use Rattle.std.proofs.Common.{◌≡◌, ℕ, zero, suc, ◌+◌, ◌-◌, ◌≤◌, Bool, ◌||◌, List, [], ◌∷◌, ◌++◌, length, take, drop, ap, ◌∙◌, refl, arith, length-append, Some, None, Result, Ok, Err, slice_get}
+use Rattle.std.specs.List.{list_any}
 use Rattle.std.proofs.lemmas.List.{take-append-le, drop-append-le, drop_at, take_all, length-drop}
 use Rattle.std.proofs.lemmas.Option.{slice_get-map}
 use Rattle.journals.specs.Lines.{Line}
@@ -86,3 +87,8 @@ within_here fields (first ∷ lines) zero packed has at =
     let same : first ≡ packed = cc in
     rw same at (has 0 first (omega arith))
 within_here fields (first ∷ lines) (suc place) packed has at = within_here fields lines place packed (λ k d below. has (suc k) d (omega arith)) at
+
+-- whether a line has a word that is one of these
+pub any_held : (is : Word → Bool) (fields : List Field) (lines : List PackedLine) → list_any (λ packed. is packed.word) lines ≡ list_any (λ line. is line.word) (lines_in fields lines)
+any_held is fields [] = refl
+any_held is fields (packed ∷ lines) = ap (λ (b : Bool). is packed.word || b) (any_held is fields lines)

@@ -258,6 +258,9 @@ fn checked(known: &Known, lines: Lines) -> Result<Lines, JournalError>
     if count > MOST_PLACES {
         return Err(JournalError::Memory);
     }
+    if !lines.have_moved() {
+        return Ok(lines);
+    }
     for place in 0..count {
         if known.is_moved_wrongly(&lines, place as u32) {
             return Err(JournalError::Fault(JournalFault {

@@ -249,7 +249,7 @@ impl Known {
         self.admit_call(lines, line, word)
     }
 
-    /// Takes a call line; of a word that is known where this is called by what is built for it.
+    /// Takes a call line. For a word that a caller names, code of its own is built.
     #[inline(always)]
     fn admit_call(&mut self, lines: &Lines, line: u32, word: CallWord) -> Result<(), LineFault>
         requires next { IsNext (ranks_in self.old.marks) lines.now line
@@ -307,8 +307,7 @@ impl Known {
         self.admit_common_report(lines, line, ReportWord::Done)
     }
 
-    /// Takes a report that brings no communicator; of a word that is known where this is called by what is built
-    /// for it.
+    /// Takes a report that brings no communicator. Callers name one word each, for which code of its own is built.
     #[inline(always)]
     fn admit_common_report(
         &mut self,

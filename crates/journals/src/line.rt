@@ -296,7 +296,7 @@ fn push_after_any(
     push_after_word(ranks, word, line, fields, into)
 }
 
-/// Reads what comes after a word: each of those that come most often by what is built for it.
+/// Reads what comes after a word. For each of those that come most often, code of its own is built.
 #[inline(always)]
 fn push_by_word(
     ranks: u32,

@@ -4,16 +4,19 @@
 //! has those of the one before. A line with a fault may leave fields there that no line has.
 
 ghost use Rattle.std.specs.Prelude.{◌≡◌, ◌<◌, ◌≤◌, [], length};
+ghost use Rattle.std.specs.List.{list_any};
+ghost use Rattle.journals.specs.Known.{is_report};
 ghost use Rattle.journals.specs.Lines.{line_of};
-ghost use Rattle.journals.specs.Taking.{word_at, fields_at};
+ghost use Rattle.journals.specs.Taking.{frees_request, word_at, fields_at};
 ghost use Rattle.journals.specs.inner.Packing.{PutsLine};
 ghost use Rattle.journals.specs.inner.Taking.{TakesLine};
+ghost use Rattle.journals.specs.declared.word.ReportWord.TheVariants.{Moved};
 
 use crate::field::Field;
 use crate::limits::MOST_LINE_BYTES;
 use crate::line::{LineFault, read_line};
 use crate::remembered::Remembered;
-use crate::word::Word;
+use crate::word::{CallWord, ReportWord, Word};
 use std::alloc::Global;
 use std::marker::Model;
 
@@ -33,6 +36,22 @@ pub(crate) struct PackedLine {
     start: u32,
     count: u16,
     word: Word,
+}
+
+/// Whether a word is that of a call by which a program frees a request.
+#[inline(always)]
+fn frees_request(word: Word) -> bool
+    ensures { result ≡ frees_request word }
+{
+    matches!(word, Word::Call(CallWord::RequestFree))
+}
+
+/// Whether a word is that of a report that a receive goes on in the next journal.
+#[inline(always)]
+fn is_moved(word: Word) -> bool
+    ensures { result ≡ is_report Moved word }
+{
+    matches!(word, Word::Report(ReportWord::Moved))
 }
 
 /// How many lines and fields some journal has.
@@ -122,6 +141,7 @@ impl Lines {
     }
 
     /// The word of a line; None beyond the last one.
+    #[inline(always)]
     pub fn word(&self, line: u32) -> Option<Word>
         ensures { result ≡ word_at self.now line }
     {
@@ -141,6 +161,20 @@ impl Lines {
             Some(fields) => fields,
             None => &[],
         }
+    }
+
+    /// Whether a line frees a request.
+    pub fn have_free(&self) -> bool
+        ensures { result ≡ list_any (λ line. frees_request line.word) self.now }
+    {
+        self.lines.iter().any(|packed| frees_request(packed.word))
+    }
+
+    /// Whether a line reports that a receive goes on in the next journal.
+    pub(crate) fn have_moved(&self) -> bool
+        ensures { result ≡ list_any (λ line. is_report Moved line.word) self.now }
+    {
+        self.lines.iter().any(|packed| is_moved(packed.word))
     }
 
     /// Reads a line, without its line feed, of a run of so many ranks, and puts it after the others; answers

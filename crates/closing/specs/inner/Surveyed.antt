@@ -1,6 +1,7 @@
 -- What the survey of the journals of a run keeps of its communicators.
 use Rattle.std.specs.Prelude.{◌≡◌, ℕ, ◌+◌, ◌<◌, ◌≤◌, ◌&&◌, ◌==◌, not, Bool, Option, None, Some, unwrap_or, option_map, option_and_then, if◌then◌else◌, true, false, List, [], ◌∷◌, ◌++◌, length, map, slice_get, slice_set, filter, replicate}
-use Rattle.std.specs.List.{AllZip, filter_map, find, flat_map, range_with_len}
+use Rattle.std.specs.List.{AllZip, filter_map, find, flat_map, list_all, list_any, range_with_len}
+use Rattle.std.specs.Option.{option_map_or}
 use Rattle.mpicall.specs.Word.{or_else}
 use Rattle.journals.specs.Lines.{Line}
 use Rattle.journals.specs.Known.{is_among}
@@ -11,13 +12,14 @@ use Rattle.journals.specs.declared.word.Word.TheVariants.{Call, Report}
 use Rattle.journals.specs.Journal.{Journal}
 use Rattle.journals.specs.JournalAnswers.{heading_in}
 use Rattle.journals.specs.declared.journal.Journal.{Journal as JournalCode}
-use Rattle.closing.specs.Called.{called}
+use Rattle.closing.specs.Called.{called, comm_of}
 use Rattle.closing.specs.Keys.{Key, Made, same_key, has_member, is_key_among}
 use Rattle.closing.specs.RankComms.{RankComms, Wave, key_next, comms_first, comms_after, after_line}
 use Rattle.closing.specs.Entries.{Run, Placed, lines_at, entries_at, ranks_of}
 use Rattle.closing.specs.Made.{wave_at, may_give, inferred_key}
 use Rattle.closing.specs.Numbers.{is_named}
-use Rattle.closing.specs.inner.Holds.{HasComms, key_on}
+use Rattle.closing.specs.inner.Holds.{HasComms, brings, key_on}
+use Rattle.closing.specs.inner.Words.{is_bare, is_plain}
 use Rattle.closing.specs.Table.{Table}
 use Rattle.closing.specs.inner.Table.{Grows, HasKey, IsTable, IsPlaceOf, IsWaveOf, ranks_in}
 use Rattle.closing.specs.declared.keys.Wave.{Wave as WaveCode}
@@ -119,6 +121,44 @@ pub record Keeps (before names : List Key) (comms : RankComms) (old new : Survey
 abbrev pub with_name : Option ℕ → List Bool → List Bool
 with_name None flags = flags
 with_name (Some place) flags = slice_set flags place true
+
+-- ---- Journals that name the world alone ----
+
+-- the world, or no communicator
+abbrev pub is_world_if_any : Option ℕ → Bool
+is_world_if_any None = true
+is_world_if_any (Some comm) = comm == 0
+
+abbrev pub is_world : Option ℕ → Bool
+is_world None = false
+is_world (Some comm) = comm == 0
+
+-- a line brings no communicator, counts on none, and names none but the world
+abbrev pub keeps_to_world : Word → List Field → Bool
+keeps_to_world (Call word) fields = if is_plain word then is_world_if_any (comm_of (called word fields)) else is_bare word
+keeps_to_world (Report word) fields = not (brings word)
+
+abbrev pub names_world : Word → List Field → Bool
+names_world (Call word) fields = is_plain word && is_world (comm_of (called word fields))
+names_world (Report word) fields = false
+
+abbrev pub keep_to_world : List Line → Bool
+keep_to_world lines = list_all (λ line. keeps_to_world line.word line.fields) lines
+
+abbrev pub name_world : List Line → Bool
+name_world lines = list_any (λ line. names_world line.word line.fields) lines
+
+-- the place of the world's key, where that is so
+abbrev pub world_place : Bool → Option ℕ
+world_place true = Some 0
+world_place false = None
+
+-- the same of the line at a place; no line does neither
+abbrev pub keeps_at : List Line → ℕ → Bool
+keeps_at lines place = option_map_or (λ line. keeps_to_world line.word line.fields) (slice_get lines place) true
+
+abbrev pub names_at_place : List Line → ℕ → Bool
+names_at_place lines place = option_map_or (λ line. names_world line.word line.fields) (slice_get lines place) false
 
 -- what the journals of the first ranks say
 pub record IsSurveyedTo (run : Run) (rank : ℕ) (it : Survey) : Type 0 where

@@ -85,6 +85,17 @@ is_plain call.Waitany = true
 is_plain call.Waitsome = true
 is_plain _ = false
 
+-- such a call names nothing
+abbrev pub is_bare : CallWord → Bool
+is_bare call.Init = true
+is_bare call.Finalize = true
+is_bare call.Abort = true
+is_bare call.Exit = true
+is_bare call.Full = true
+is_bare call.Stopped = true
+is_bare call.Cut = true
+is_bare _ = false
+
 -- it counts among those on a communicator, or makes one of a group
 abbrev pub counts : Called → Bool
 counts (Collects collective comm root) = true

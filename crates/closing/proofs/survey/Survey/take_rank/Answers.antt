@@ -20,12 +20,12 @@ pub returns-in-Some-clause-takes : goal.returns-in-Some-clause-takes
 returns-in-Some-clause-takes c run is before names has =
     let a = c.args.self.now in
     let b = c.start_rank.new.self in
-    let d = c.take_lines.new.self in
+    let d = c.take_all.new.self in
     let journal : Journal = journal_of_code c.in-Some.journal.now in
     let places : HavePlaces journal.lines = omega (arith, c.in_ok-checked_place-in-Some.ensures, c.count.ensures) in
     let first = c.in_ok-comms.ensures.starts before names has in
-    let more = c.in_ok-take_lines-in-Some.ensures.takes before names (comms_first c.args.rank) places first.is in
+    let more = c.in_ok-take_all-in-Some.ensures.takes before names c.args.rank places first.is in
     let some : journal_at run c.args.rank ≡ Some journal = is ∙ ap (λ j. option_map journal_of_code (option_copied j)) c.in-Some.is in
-    rank_some run c.args.rank before names a d c.take_lines.new.comms journal c.wave_of_last.result some
-    (keeps_on before names (names ++ names_from (comms_first c.args.rank) journal.lines) (comms_first c.args.rank) (comms_after c.args.rank journal.lines) a b d c.in_ok-comms.comms c.take_lines.new.comms first more)
+    rank_some run c.args.rank before names a d c.take_all.new.comms journal c.wave_of_last.result some
+    (keeps_on before names (names ++ names_from (comms_first c.args.rank) journal.lines) (comms_first c.args.rank) (comms_after c.args.rank journal.lines) a b d c.in_ok-comms.comms c.take_all.new.comms first more)
     (c.wave_of_last.ensures d.keys c.args.rank places more.is.has_comms)
