@@ -307,7 +307,7 @@ class Script(unittest.TestCase):
     def test_the_first_build_names_the_way_without_a_proof(self):
         status, out, err = self.run_script("check", "head", "r0")
         self.assertEqual((status, out), (0, "check head r0\n"))
-        self.assertIn("proving and building it, this first time only: up to an hour; "
+        self.assertIn("proving and building it, this first time only: an hour or two; "
                       "./mpiwait --unproved .. answers in a minute\n", err)
 
     def build(self, **variables):
