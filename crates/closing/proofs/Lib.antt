@@ -55,6 +55,7 @@ pub mod PlaceListLemmas
 pub mod CallLemmas
 pub mod CodeLemmas
 pub mod CutLemmas
+pub mod GrowLemmas
 pub mod HoldsLemmas
 pub mod KeyLemmas
 pub mod ReportLemmas

@@ -88,7 +88,7 @@ fn matched_in(alloc: Global, lines: &Lines) -> Result<Standing, AllocError>
 }
 
 /// What stands for some requests in the trace.
-#[tactic(auto, using(crate::proofs::FreedIds::ids_more, crate::proofs::FreedIds::ids_all))]
+#[tactic(auto, using(crate::proofs::FreedIds::ids_all))]
 fn ids_of(alloc: Global, matched: &Standing, requests: &[u32]) -> Result<HashSet<u32>, AllocError>
     ensures { IfOk result (λ ids. (id : ℕ) → contains nat_eq ids id ≡ list_any (λ request. id_in matched.now request == id) requests.now) }
 {

@@ -75,7 +75,6 @@ fn push_natural(into: &mut Vec<u32>, field: Field) -> Result<(), AllocError>
 }
 
 /// Adds the numbers of some fields at the end of a list.
-#[tactic(auto, using(crate::proofs::PlaceListLemmas::naturals_step))]
 fn push_naturals(into: &mut Vec<u32>, fields: &[Field]) -> Result<(), AllocError>
     ensures { OnOk result (into.new.items ≡ into.old.items ++ naturals_in fields.now) }
 {

@@ -75,7 +75,6 @@ impl Outcomes {
     }
 
     /// What these lines report.
-    #[tactic(auto, using(crate::proofs::RequestReportLemmas::outcome_step, crate::proofs::RequestReportLemmas::tells_all))]
     pub(crate) fn of(alloc: Global, lines: &Lines) -> Result<Outcomes, AllocError>
         ensures { IfOk result (λ outcomes. AreReadable lines.now → Tells lines.now outcomes) }
     {

@@ -150,7 +150,6 @@ impl Standing {
 
     /// Puts what some requests are in the trace into a list, but those that waits leave out.
     #[inline(never)]
-    #[tactic(auto, using(crate::proofs::StandingLemmas::ids_step, crate::proofs::RequestReportLemmas::ids_told))]
     pub(crate) fn find(&self, requests: &[Field], into: &mut Vec<u32>) -> Result<(), AllocError>
         ensures ids { OnOk result (into.new.items ≡ ids_in self.now requests.now) }
         ensures told { OnOk result ((lines : List Line) → Tells lines self.now.outcomes → AllStandFor lines self.now (naturals_in requests.now) → map Own into.new.items ≡ ids_of lines (naturals_in requests.now)) }

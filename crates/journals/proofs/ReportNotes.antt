@@ -107,7 +107,7 @@ choice : (word : CallWord) (count : ℕ) (entry : Entry) (line : Line) (number :
 unfolding completes_by
 choice call.Waitany count entry line number may within = chosen_or _ _ number within
 choice call.Waitsome count entry line number may within = chosen_or _ _ number within
-choice _ count entry line number may within = cc
+choice _ count entry line number may within = absurd (false≢true may)
 
 find_none : (test : Line → Bool) (lines : List Line) → list_any test lines ≡ false → find test lines ≡ None
 find_none test [] none = refl
@@ -168,7 +168,7 @@ wait_called ranks count entry may read = by_word entry.word entry.fields may rea
     by_word : (word : CallWord) (fields : List Field) → may_choose word count ≡ true → IsRead ranks (record { word = Call word; fields = fields }) → numbers_by is_of_request (record { word = Call word; fields = fields }) ≡ numbers_by is_request (record { word = Call word; fields = fields })
     by_word call.Waitany fields may read = named (max 1 (length fields - 0)) fields read.fits
     by_word call.Waitsome fields may read = named (max 1 (length fields - 0)) fields read.fits
-    by_word _ fields may read = cc
+    by_word _ fields may read = absurd (false≢true may)
 
 -- ---- The last call with a report ----
 

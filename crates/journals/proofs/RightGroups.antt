@@ -3,7 +3,7 @@ use Rattle.std.proofs.Common.{◌≡◌, ℕ, ◌-◌, max, Bool, true, false, �
 use Rattle.std.specs.List.{filter_map, cons_option, zip}
 use Rattle.std.specs.Prelude.{nat_eq}
 use Rattle.std.specs.HashMap.{get}
-use Rattle.std.proofs.lemmas.Bool.{and_parts}
+use Rattle.std.proofs.lemmas.Bool.{and_parts, false≢true}
 use Rattle.journals.specs.Lines.{Line}
 use Rattle.journals.specs.Entries.{Entry, numbers_by, number_if, is_comm, is_request, last_entry}
 use Rattle.journals.specs.Known.{is_among, are_distinct, group_of, parent_of}
@@ -71,7 +71,7 @@ module _ (known : Known) (lines later : List Line) (comms : (comm : ℕ) → (Co
   on_first call.CommSplit (Null ∷ fields) may = ap first_number (no_numbers is_comm (Colour ∷ Key ∷ []) fields refl)
   on_first call.CommSplit (Any ∷ fields) may = ap first_number (no_numbers is_comm (Colour ∷ Key ∷ []) fields refl)
   on_first call.CommSplit (Undefined ∷ fields) may = ap first_number (no_numbers is_comm (Colour ∷ Key ∷ []) fields refl)
-  on_first _ fields may = cc
+  on_first _ fields may = absurd (false≢true may)
 
   made_is : (word : CallWord) (fields : List Field) (group : List Field) (entry : Entry) → entry.word ≡ word → entry.fields ≡ fields → IsRead (ranks_in known.marks) (record { word = Call word; fields = fields }) → may_bring_comm word fields ≡ true → is_made_in (owner_of known) lines (record entry { word = word; fields = fields }) (naturals group) word ≡ is_made_last known later word fields group
   made_is call.CommCreateGroup fields group entry word_is fields_is read may = rw (call_group (ranks_in known.marks) fields read) refl
@@ -81,7 +81,7 @@ module _ (known : Known) (lines later : List Line) (comms : (comm : ℕ) → (Co
       within_is _ (naturals group) ∙ ap (λ it. is_right_group known.rank (group_by known later it) (naturals group)) (on_first call.CommSplit fields refl)
   made_is call.CommMake fields group entry word_is fields_is read may =
       within_is _ (naturals group) ∙ ap (λ it. is_right_group known.rank (group_by known later it) (naturals group)) (on_first call.CommMake fields refl)
-  made_is _ fields group entry word_is fields_is read may = cc
+  made_is _ fields group entry word_is fields_is read may = absurd (false≢true may)
 
   -- the request of a report of a nonblocking duplicate is its second field
   on_second : (fields : List Field) → parent_in lines (numbers_by is_request (record { word = Report report.Idup; fields = fields })) ≡ option_and_then (parent_of lines) (second_natural fields)

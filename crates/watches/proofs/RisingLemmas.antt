@@ -18,25 +18,31 @@ then_of false r e = absurd cc
 then_is : (b r : Bool) → b ≡ true → r ≡ true → (if b then r else false) ≡ true
 then_is b r e f = rw e f
 
+le_self : (n : ℕ) → nat_le n n ≡ true
+le_self n = grind (arith, nat_tests)
+
+le_through : (a b c : ℕ) → nat_le a b ≡ true → nat_le b c ≡ true → nat_le a c ≡ true
+le_through a b c p q = grind (arith, nat_tests, p, q)
+
+less_by : (a b : ℕ) → nat_lt a b ≡ true → a < b
+less_by a b p = grind (arith, nat_tests, p)
+
 no_lower_self : (xs : List ℕ) → is_no_lower xs xs ≡ true
 unfolding is_no_lower
-no_lower_self xs = list_all-from_AllPass (λ rank. nat_le (slice_index xs rank) (slice_index xs rank)) (range_with_len 0 MOST_RANKS) (λ k d below. grind (arith, nat_tests))
+no_lower_self xs = list_all-from_AllPass (λ rank. nat_le (slice_index xs rank) (slice_index xs rank)) (range_with_len 0 MOST_RANKS) (λ k d below. le_self _)
 
 no_lower_trans : (xs ys zs : List ℕ) → is_no_lower xs ys ≡ true → is_no_lower ys zs ≡ true → is_no_lower xs zs ≡ true
 unfolding is_no_lower
 no_lower_trans xs ys zs p q =
     let p' = AllPass-from_list_all (λ rank. nat_le (slice_index xs rank) (slice_index ys rank)) (range_with_len 0 MOST_RANKS) p in
     let q' = AllPass-from_list_all (λ rank. nat_le (slice_index ys rank) (slice_index zs rank)) (range_with_len 0 MOST_RANKS) q in
-    list_all-from_AllPass (λ rank. nat_le (slice_index xs rank) (slice_index zs rank)) (range_with_len 0 MOST_RANKS) (λ k d below.
-    let p'' = p' k d below in
-    let q'' = q' k d below in grind (arith, nat_tests, p'', q''))
+    list_all-from_AllPass (λ rank. nat_le (slice_index xs rank) (slice_index zs rank)) (range_with_len 0 MOST_RANKS) (λ k d below. le_through _ _ _ (p' k d below) (q' k d below))
 
 further_is_no_lower : (xs ys : List ℕ) → is_further xs ys ≡ true → is_no_lower xs ys ≡ true
 further_is_no_lower xs ys e = (and_parts (is_no_lower xs ys) (nat_lt (sum xs) (sum ys)) e).0
 
 pub further_is_more : (xs ys : List ℕ) → is_further xs ys ≡ true → sum xs < sum ys
-further_is_more xs ys e =
-    let more = (and_parts (is_no_lower xs ys) (nat_lt (sum xs) (sum ys)) e).1 in grind (arith, nat_tests, more)
+further_is_more xs ys e = less_by (sum xs) (sum ys) (and_parts (is_no_lower xs ys) (nat_lt (sum xs) (sum ys)) e).1
 
 -- what may follow the last of a list
 abbrev pub may_follow : Option Stands → Stands → Bool

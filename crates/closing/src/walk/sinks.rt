@@ -217,7 +217,6 @@ fn push_item(
     Ok(())
 }
 
-#[tactic(auto, using(crate::proofs::SunkWaits::items_step))]
 fn push_items(
     standing: &Standing,
     sinks: &Sinks,

@@ -321,7 +321,6 @@ fn add_at(
     Ok(())
 }
 
-#[tactic(auto, using(crate::proofs::FindingLemmas::one_more))]
 fn add_of_rank(
     findings: &mut Vec<Finding>,
     known: &mut Known,
@@ -341,7 +340,7 @@ fn add_of_rank(
 
 /// Adds the calls whose new communicators have other groups than the calls give them, by rank and place. Where no
 /// call makes one it looks at none.
-#[tactic(auto, using(crate::proofs::FindingLemmas::one_more, crate::proofs::NothingLemmas::none_wrong), unfolding(crate::specs::Findings::wrong_groups_of))]
+#[tactic(auto, using(crate::proofs::NothingLemmas::none_wrong), unfolding(crate::specs::Findings::wrong_groups_of))]
 pub fn add_wrong_groups(
     alloc: Global,
     findings: &mut Vec<Finding>,

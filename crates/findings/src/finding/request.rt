@@ -61,7 +61,6 @@ fn add_at(
 }
 
 /// Adds the requests of a rank that no wait completes. Where none is active it looks at no call.
-#[tactic(auto, using(crate::proofs::FindingLemmas::one_more))]
 fn add_of_rank(findings: &mut Vec<Finding>, pairs: &Pairs, rank: u16) -> Result<(), AllocError>
     ensures { OnOk result (findings.new.items
         ≡ findings.old.items ++ over_places (lost_at pairs.now.recording rank) pairs.now.recording rank) }
@@ -77,7 +76,7 @@ fn add_of_rank(findings: &mut Vec<Finding>, pairs: &Pairs, rank: u16) -> Result<
 }
 
 /// Adds the requests that no wait completes, by rank and place of their starts.
-#[tactic(auto, using(crate::proofs::FindingLemmas::one_more), unfolding(crate::specs::Findings::lost_requests))]
+#[tactic(auto, unfolding(crate::specs::Findings::lost_requests))]
 pub fn add_requests(findings: &mut Vec<Finding>, pairs: &Pairs) -> Result<(), AllocError>
     ensures { OnOk result (findings.new.items ≡ findings.old.items ++ lost_requests pairs.now.recording) }
 {

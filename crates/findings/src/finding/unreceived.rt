@@ -60,7 +60,6 @@ fn add_at(
     Ok(())
 }
 
-#[tactic(auto, using(crate::proofs::FindingLemmas::one_more))]
 fn add_of_rank(findings: &mut Vec<Finding>, pairs: &Pairs, rank: u16) -> Result<(), AllocError>
     ensures { OnOk result (findings.new.items
         ≡ findings.old.items ++ over_places (unreceived_at pairs.now.groups pairs.now.recording rank) pairs.now.recording rank) }
@@ -72,7 +71,7 @@ fn add_of_rank(findings: &mut Vec<Finding>, pairs: &Pairs, rank: u16) -> Result<
 }
 
 /// Adds the messages that nobody receives, by rank and place. Where each is received it looks at no call.
-#[tactic(auto, using(crate::proofs::FindingLemmas::one_more, crate::proofs::NothingLemmas::none_unreceived), unfolding(crate::specs::Findings::unreceived_of))]
+#[tactic(auto, using(crate::proofs::NothingLemmas::none_unreceived), unfolding(crate::specs::Findings::unreceived_of))]
 pub fn add_unreceived(findings: &mut Vec<Finding>, pairs: &Pairs) -> Result<(), AllocError>
     ensures { OnOk result (findings.new.items ≡ findings.old.items ++ unreceived_of pairs.now.groups pairs.now.recording) }
 {

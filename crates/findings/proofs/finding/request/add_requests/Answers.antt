@@ -1,0 +1,10 @@
+use Rattle.std.proofs.Common.{arith}
+use Rattle.findings.specs.Places.{over_places}
+use Rattle.findings.specs.Findings.{lost_at}
+use Rattle.findings.proofs.FindingLemmas.{one_more}
+use Rattle.findings.proofs.finding.request.add_requests.Goals as goal
+
+pub loop-rank-preserved : goal.loop-rank-preserved
+loop-rank-preserved c =
+    let recording = c.args.pairs.now.recording in
+    one_more (λ rank. over_places (lost_at recording rank) recording rank) 0 c.loop-rank.rank c.loop-rank.rank _ _ _ c.loop-rank.invariant c.in_ok-add_of_rank.ensures (omega arith)
