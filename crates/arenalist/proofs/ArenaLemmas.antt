@@ -3,13 +3,13 @@ use Rattle.std.proofs.Common.{◌≡◌, ℕ, zero, suc, ◌+◌, ◌<◌, ◌�
 use Rattle.std.specs.Prelude.{is_some}
 use Rattle.std.proofs.lemmas.List.{length-set, length-append, length-map, map-set}
 use Rattle.std.proofs.lemmas.Bool.{cases_eq, cases_lt, eq-eqb}
-use Rattle.arenalist.specs.Numbers.{list_at}
-use Rattle.arenalist.specs.inner.Numbers.{count, in_all, without, first_of}
+use Rattle.arenaqueue.specs.Numbers.{list_at}
+use Rattle.arenaqueue.specs.inner.Numbers.{count, in_all, without, first_of}
 use Rattle.arenalist.specs.Arena.{IsFirst}
 use Rattle.arenalist.specs.inner.Links.{Linked}
 use Rattle.arenalist.specs.inner.Slots.{entries, entries_of, IsArena, entry_of}
-use Rattle.arenalist.proofs.NumberLemmas.{count-append, count_one, count_other, count_head, in_all-set, in_all-append, in_all_without, in_all_without_same, count_without, without_none, count_in_all, get_or-push_default}
-use Rattle.arenalist.proofs.SumLemmas.{length_most}
+use Rattle.arenaqueue.proofs.NumberLemmas.{count-append, count_one, count_other, count_head, in_all-set, in_all-append, in_all_without, in_all_without_same, count_without, without_none, count_in_all, get_or-push_default}
+use Rattle.arenaqueue.proofs.SumLemmas.{length_most}
 use Rattle.arenalist.proofs.EntryLemmas.{entries_of_same, entries_unlinked, entries_at, at_some}
 
 -- a list with a cell more at its back, among the lists

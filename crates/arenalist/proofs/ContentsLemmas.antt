@@ -2,7 +2,7 @@
 use Rattle.std.proofs.Common.{◌≡◌, ℕ, zero, suc, List, [], ◌∷◌, ◌++◌, length, map, drop, set, replicate, refl, sym, ap, ◌∙◌}
 use Rattle.std.specs.List.{slice_get}
 use Rattle.std.proofs.lemmas.List.{map-set, map-append, drop-map, length-map}
-use Rattle.arenalist.specs.Numbers.{list_at}
+use Rattle.arenaqueue.specs.Numbers.{list_at}
 use Rattle.arenalist.specs.Arena.{first_value, linked, spliced}
 use Rattle.arenalist.specs.inner.Arena.{contents}
 

@@ -3,11 +3,11 @@ use Rattle.std.proofs.Common.{◌≡◌, ℕ, zero, suc, ◌+◌, ◌<◌, ◌�
 use Rattle.std.specs.Prelude.{is_some}
 use Rattle.std.proofs.lemmas.List.{map-set, length-map}
 use Rattle.std.proofs.lemmas.Bool.{cases_eq, cases_lt, eq-eqb, ne_eqb}
-use Rattle.arenalist.specs.Numbers.{list_at}
-use Rattle.arenalist.specs.inner.Numbers.{count, in_all, without, after, first_of}
+use Rattle.arenaqueue.specs.Numbers.{list_at}
+use Rattle.arenaqueue.specs.inner.Numbers.{count, in_all, without, after, first_of}
 use Rattle.arenalist.specs.Arena.{value_in, or_value, value_at, times_in, times, first_node, behind, without_node, unlinked, linked, revalued_in, revalued}
 use Rattle.arenalist.specs.inner.Slots.{entry_of, entries, entries_of}
-use Rattle.arenalist.proofs.NumberLemmas.{count_other, count_head}
+use Rattle.arenaqueue.proofs.NumberLemmas.{count_other, count_head}
 
 -- a number is the first of a list, or not
 same_first : (n x : ℕ) (xs : List ℕ) → n ≡ x → count n (x ∷ xs) ≡ 1 + count n xs

@@ -1,5 +1,3 @@
-pub mod NumberLemmas
-pub mod SumLemmas
 pub mod ContentsLemmas
 pub mod RingLemmas
 pub mod OwnerLemmas
@@ -7,7 +5,3 @@ pub mod LinkLemmas
 pub mod EntryLemmas
 pub mod ArenaLemmas
 pub mod SpliceLemmas
-pub mod CellLemmas
-pub mod ChainLemmas
-pub mod CountingLemmas
-pub mod QueueLemmas

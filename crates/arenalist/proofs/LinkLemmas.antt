@@ -2,11 +2,11 @@
 use Rattle.std.proofs.Common.{◌≡◌, ℕ, ◌+◌, ◌^◌, ◌<◌, ◌≤◌, ◌++◌, ◌≢◌, Option, Some, None, List, [], ◌∷◌, length, map, drop, get_or, set, refl, sym, ap, subst, ◌∙◌, ⊎_elim, arith}
 use Rattle.std.proofs.lemmas.List.{get_or_append_left, get_or_push, map-append, map-set, length-set, length-map, get_or-map, length-append, ext_get_or}
 use Rattle.std.proofs.lemmas.Bool.{cases_eq, cases_lt, ne_eqb}
-use Rattle.arenalist.specs.Numbers.{list_at}
-use Rattle.arenalist.specs.inner.Numbers.{count, in_all, without, after, first_of}
+use Rattle.arenaqueue.specs.Numbers.{list_at}
+use Rattle.arenaqueue.specs.inner.Numbers.{count, in_all, without, after, first_of}
 use Rattle.arenalist.specs.inner.Rings.{Chain, IsRing, walk, rings_of, lists_of, AreLinked, nexts_linked, prevs_linked, nexts_unlinked, prevs_unlinked}
 use Rattle.arenalist.specs.inner.Links.{AreOwned, AreLinks}
-use Rattle.arenalist.proofs.NumberLemmas.{count-append, count_one, count_other, count_head, count_in_all, count_in_two, some_list, count_drop, found_in, cut_at, at_map, in_all-append, after_cut}
+use Rattle.arenaqueue.proofs.NumberLemmas.{count-append, count_one, count_other, count_head, count_in_all, count_in_two, some_list, count_drop, found_in, cut_at, at_map, in_all-append, after_cut}
 use Rattle.arenalist.proofs.RingLemmas.{chain_split, ring_same, RingHead, ring_head, head_of, links, unlinks_from, lists_at, rings_walked, heads_walked, heads_linked, heads_without, nexts_length}
 use Rattle.arenalist.proofs.RingLemmas.RingHead.{Head}
 use Rattle.arenalist.proofs.OwnerLemmas.{owned_linked, owned_unlinked, owned_more, owned_listed}

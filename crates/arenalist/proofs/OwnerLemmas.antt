@@ -1,10 +1,10 @@
 -- The lists that cells know as theirs.
 use Rattle.std.proofs.Common.{◌≡◌, ℕ, ◌<◌, ◌++◌, Option, Some, None, List, [], ◌∷◌, length, map, get_or, set, sym, ap, subst, ◌∙◌, ⊎_elim, arith, get_or-set_same, get_or-set_other}
 use Rattle.std.proofs.lemmas.Bool.{cases_eq}
-use Rattle.arenalist.specs.Numbers.{list_at}
-use Rattle.arenalist.specs.inner.Numbers.{count, in_all, without}
+use Rattle.arenaqueue.specs.Numbers.{list_at}
+use Rattle.arenaqueue.specs.inner.Numbers.{count, in_all, without}
 use Rattle.arenalist.specs.inner.Links.{AreOwned}
-use Rattle.arenalist.proofs.NumberLemmas.{count_one, count_other, count_in_all, count_without, count_without_same, list_at-without, get_or-push_default, count_back, count_back_other}
+use Rattle.arenaqueue.proofs.NumberLemmas.{count_one, count_other, count_in_all, count_without, count_without_same, list_at-without, get_or-push_default, count_back, count_back_other}
 
 -- a cell that no list has is put at the back of one
 pub owned_linked : (owners : List (Option ℕ)) (lists : List (List ℕ)) (n l : ℕ) → AreOwned owners lists → in_all n lists ≡ 0 → n < length owners → l < length lists → AreOwned (set owners n (Some l)) (set lists l (list_at lists l ++ n ∷ []))

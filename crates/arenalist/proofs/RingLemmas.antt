@@ -3,11 +3,11 @@ use Rattle.std.proofs.Common.{append-nil, ◌≡◌, ℕ, zero, suc, ◌+◌, �
 use Rattle.std.specs.Prelude.{◌⊎◌, ◌==◌, if◌then◌else◌}
 use Rattle.std.proofs.lemmas.List.{length-set, length-map, get_or-map, ext_get_or, map-set, set-get_or}
 use Rattle.std.proofs.lemmas.Bool.{cases_eq, eq-eqb, ne_eqb}
-use Rattle.arenalist.specs.Numbers.{list_at}
-use Rattle.arenalist.specs.inner.Numbers.{count, in_all, without}
+use Rattle.arenaqueue.specs.Numbers.{list_at}
+use Rattle.arenaqueue.specs.inner.Numbers.{count, in_all, without}
 use Rattle.arenalist.specs.inner.Rings.{Chain, IsRing, walk, rings_of, lists_of, AreLinked, nexts_linked, prevs_linked}
-use Rattle.arenalist.proofs.NumberLemmas.{count-append, count_one, count_other, count_head, in_all-set, count_in_all, count_in_two, cut_at, without_none, without_cut, in_all_without, count_drop, apart, at_map}
-use Rattle.arenalist.proofs.SumLemmas.{length_most}
+use Rattle.arenaqueue.proofs.NumberLemmas.{count-append, count_one, count_other, count_head, in_all-set, count_in_all, count_in_two, cut_at, without_none, without_cut, in_all_without, count_drop, apart, at_map}
+use Rattle.arenaqueue.proofs.SumLemmas.{length_most}
 
 -- chains
 pub chain_same : (nexts prevs nexts' prevs' : List ℕ) (a : ℕ) (xs : List ℕ) (z : ℕ) → Chain nexts prevs a xs z → ((b : ℕ) → 0 < count b (a ∷ xs) → get_or nexts' b 0 ≡ get_or nexts b 0) → ((b : ℕ) → 0 < count b xs + count b (z ∷ []) → get_or prevs' b 0 ≡ get_or prevs b 0) → Chain nexts' prevs' a xs z

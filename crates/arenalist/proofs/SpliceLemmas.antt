@@ -3,13 +3,14 @@ use Rattle.std.proofs.Common.{append-nil, ◌≡◌, ℕ, zero, suc, ◌+◌, �
 use Rattle.std.specs.Prelude.{◌==◌, if◌then◌else◌, is_some}
 use Rattle.std.proofs.lemmas.List.{length-set, map-set, set-get_or, get_or-map, append_assoc}
 use Rattle.std.proofs.lemmas.Bool.{cases_eq, cases_lt}
-use Rattle.arenalist.specs.Numbers.{list_at}
-use Rattle.arenalist.specs.inner.Numbers.{count, in_all}
-use Rattle.arenalist.specs.inner.Rings.{Chain, IsRing, walk, rings_of, lists_of, AreLinked, nexts_spliced, prevs_spliced, around, Leads, IsRound}
+use Rattle.arenaqueue.specs.Numbers.{list_at}
+use Rattle.arenaqueue.specs.inner.Numbers.{count, in_all}
+use Rattle.arenaqueue.specs.inner.Chains.{Leads}
+use Rattle.arenalist.specs.inner.Rings.{Chain, IsRing, walk, rings_of, lists_of, AreLinked, nexts_spliced, prevs_spliced, around, IsRound}
 use Rattle.arenalist.specs.inner.Links.{AreOwned, AreLinks, owners_given}
 use Rattle.arenalist.specs.Arena.{spliced}
 use Rattle.arenalist.specs.inner.Slots.{entry_of, entries, entries_of, IsArena}
-use Rattle.arenalist.proofs.NumberLemmas.{count-append, count_one, count_other, count_head, in_all-set, count_in_all, count_in_two, apart}
+use Rattle.arenaqueue.proofs.NumberLemmas.{count-append, count_one, count_other, count_head, in_all-set, count_in_all, count_in_two, apart}
 use Rattle.arenalist.proofs.RingLemmas.{chain_bent, chain_join, last_in, ring_same, head_of, heads_of, rings_walked, heads_walked, lists_at}
 use Rattle.arenalist.proofs.EntryLemmas.{entries_at}
 use Rattle.arenalist.proofs.LinkLemmas.{long_rings, long_lists, ring_at, in_rings, its}

@@ -1,6 +1,6 @@
 -- Lists of nodes with values, by their numbers.
-use Rattle.std.specs.Prelude.{◌≡◌, ℕ, ◌+◌, ◌-◌, ◌^◌, min, Option, Some, None, IsSome, List, [], ◌∷◌, ◌++◌, map, drop, slice_set, ◌==◌, if◌then◌else◌}
-use Rattle.arenalist.specs.Numbers.{list_at}
+use Rattle.std.specs.Prelude.{◌≡◌, ℕ, ◌+◌, Option, Some, None, IsSome, List, [], ◌∷◌, ◌++◌, map, drop, slice_set, ◌==◌, if◌then◌else◌}
+use Rattle.arenaqueue.specs.Numbers.{list_at}
 
 -- the lists, each an entry (node, value) after the other; how many nodes are spare; and the count
 pub record Arena (T : Type 0) : Type 0 where
@@ -82,7 +82,3 @@ pub record IsFirst {T : Type 0} (lists : List (List (ℕ × T))) (l n : ℕ) : T
   pub found : value_at lists n ≡ Some value
   pub is : list_at lists l ≡ (n, value) ∷ drop 1 (list_at lists l)
   pub rest : unlinked lists n ≡ slice_set lists l (drop 1 (list_at lists l))
-
--- a count that stays at the greatest `u64`
-abbrev pub counted : ℕ → ℕ → ℕ
-counted work more = min (work + more) (2 ^ 64 - 1)

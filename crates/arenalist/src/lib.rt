@@ -1,6 +1,4 @@
-//! Many lists in one arena: doubly linked ones in `lists`, and singly linked queues in `queues`.
-//!
-//! # Lists
+//! Many lists in one arena, doubly linked.
 //!
 //! A `Lists<T>` is a map from list numbers to lists of nodes, each with a value. A value keeps its
 //! node while it is in the lists, also where it is moved from one list to another, and a node
@@ -33,31 +31,8 @@
 //! lists.unlink(ten)             // 10, and both nodes are spare
 //! lists.work()                  // 8
 //! ```
-//!
-//! # Queues
-//!
-//! A `Queues<T>` is a map from list numbers to lists of values, which come in at the back and go out at the
-//! front. It takes 8 bytes a list, 8 bytes a node with a number of 32 bits, and a few instructions a call.
-//! Its contracts are over the values alone (`specs/Queued.antt`), and promise the same: all other lists stay,
-//! nothing changes where memory is refused, and `work` counts 1 for a push and for a pop that finds something,
-//! and 2 for each node that `append` moves.
-//!
-//! ```text
-//! let mut queues = Queues::new(alloc);
-//! let (a, b) = (queues.new_list()?, queues.new_list()?);
-//! queues.reserve(2)?;
-//! queues.push_reserved(a, 10);
-//! queues.push_reserved(b, 20);
-//! queues.append(a, b);          // a: 10 20   b:
-//! queues.front(a)               // Some(10)
-//! queues.pop_front(a)           // Some(10), and its node is spare
-//! queues.spare()                // 1
-//! queues.work()                 // 5
-//! ```
 #![tactic(auto)]
 
-mod cells;
 mod links;
 pub mod lists;
 pub mod node;
-pub mod queues;

@@ -2,8 +2,8 @@
 
 ghost use Rattle.std.specs.Prelude.{◌≡◌, ◌≢◌, ◌+◌, ◌-◌, ◌<◌, ◌≤◌, ◌^◌, ℕ, [], ◌∷◌, ◌++◌, length, map, slice_set, slice_index, None, Some, IfOk, OnOk, OnErr};
 ghost use Rattle.std.specs.Vec.{vec_capacity};
-ghost use Rattle.arenalist.specs.Numbers.{list_at};
-ghost use Rattle.arenalist.specs.inner.Numbers.{count, in_all, without, after, first_of};
+ghost use Rattle.arenaqueue.specs.Numbers.{list_at};
+ghost use Rattle.arenaqueue.specs.inner.Numbers.{count, in_all, without, after, first_of};
 ghost use Rattle.arenalist.specs.inner.Rings.{nexts_linked, prevs_linked, nexts_unlinked, prevs_unlinked, nexts_spliced, prevs_spliced, around, IsRound};
 ghost use Rattle.arenalist.specs.inner.Links.{owners_given};
 

@@ -6,8 +6,8 @@ ghost use Rattle.std.specs.Borrow.{sem};
 ghost use Rattle.std.specs.Vec.{vec_capacity};
 ghost use Rattle.arenalist.specs.Lends.{lends_value};
 ghost use Rattle.arenalist.specs.inner.Lends.{lends_slot};
-ghost use Rattle.arenalist.specs.Numbers.{list_at};
-ghost use Rattle.arenalist.specs.Arena.{value_at, HasNode, IsLinked, times, first_node, first_value, behind, unlinked, linked, spliced, IsFirst, counted};
+ghost use Rattle.arenaqueue.specs.Numbers.{list_at, counted};
+ghost use Rattle.arenalist.specs.Arena.{value_at, HasNode, IsLinked, times, first_node, first_value, behind, unlinked, linked, spliced, IsFirst};
 
 use crate::links::Links;
 use crate::node::{ListId, Node};

@@ -6,11 +6,5 @@ pub mod TextLemmas
 pub mod OpeningLemmas
 pub mod EndLemmas
 pub mod LintLemmas
-pub mod HeadToHeadLemmas
-pub mod InMemoryLemmas
-pub mod LintInMemory
-pub mod JudgeInMemory
-pub mod MadeLemmas
-pub mod CloseInMemory
 pub mod JournalLemmas
 pub mod FolderLemmas

@@ -16,8 +16,4 @@ pub mod Texts
 pub mod Journals
 pub mod Argv
 pub mod Lints
-pub mod MemoryFiles
-pub mod HeadToHead
-pub mod InMemory
-pub mod JournalsInMemory
 pub mod inner

@@ -5,9 +5,7 @@
 //!   ends the process with the status.
 //! - `program::program` runs it on words that are texts, and gives the status.
 //! - `opener::Opener` is what opens the files that the words name, and `opener::Maker` what makes the folder of a
-//!   recording; `opener::Disk` does both on the machine, and `memory_files` has both in memory, where texts are known.
-//! - `in_memory::program_in_memory` runs it over such files, and says whole how each command ends.
-//! - `head_to_head::two_that_send_first` is one such run.
+//!   recording; `opener::Disk` does both on the machine. The crate `cli_memory` has both in memory, where texts are known.
 //!
 //! What is on both outputs at the end, by the words and by the texts of the files, is the contract of
 //! `program`; that of `argv::run` says the same of some words. The definitions are in `specs/`: `CommandLine` for
@@ -23,14 +21,11 @@ pub mod command_line;
 pub mod fault;
 mod folder;
 mod found;
-pub mod head_to_head;
-pub mod in_memory;
 mod journal_folder;
 pub mod limit;
 mod lint;
 mod manner;
 mod measured;
-pub mod memory_files;
 mod number;
 pub mod opener;
 pub mod options;

@@ -1,13 +1,13 @@
 //! Feeds over a channel.
 
 ghost use Rattle.std.specs.Prelude.{IfSome};
-ghost use Rattle.rankfeed.specs.Channels.{SameFeed, SameTaker, IsReceiptOf};
+ghost use Rattle.channelfeed.specs.Channels.{SameFeed, SameTaker, IsReceiptOf};
 
 use crate::feeds::{Puts, Takes, by_threads, by_turns, letter_taken, named, plays};
+use channelfeed::channel::{Feed, PutFault, Receipt, Taker};
 use mpicall::fault::SourceFault;
 use mpicall::record::Record;
 use rankfeed::Took;
-use rankfeed::channel::{Feed, PutFault, Receipt, Taker};
 use std::alloc::{AllocError, Global};
 use std::sync::Wait;
 use std::thread::Threads;

@@ -1,4 +1,4 @@
-use arenalist::queues::Queues;
+use arenaqueue::queues::Queues;
 use std::test::Fail;
 
 #[test]

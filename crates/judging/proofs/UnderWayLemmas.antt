@@ -20,7 +20,7 @@ use Rattle.closing.specs.Steps.{Written}
 use Rattle.closing.specs.declared.pending.Wanted.{Wanted}
 use Rattle.journals.specs.Lines.{Line}
 use Rattle.moves.specs.Analysed.{Analysed}
-use Rattle.windows.specs.Clean.{has_all}
+use Rattle.pairing.specs.Met.{has_all}
 use Rattle.closing.specs.Numbers.{groups_of}
 use Rattle.closing.specs.Recordings.{RecordingView}
 use Rattle.judging.specs.NamedCalls.{line_in, lines_of}

@@ -13,7 +13,7 @@ use Rattle.callstore.specs.Envelopes.{message_of, probed_message}
 use Rattle.callstore.specs.Recordings.{Lists}
 use Rattle.callstore.specs.declared.envelope.Half.TheVariants.{Recv as RecvHalf}
 use Rattle.callstore.specs.declared.envelope.Message.{Message}
-use Rattle.windows.specs.Clean.{has_all}
+use Rattle.pairing.specs.Met.{has_all}
 use Rattle.journals.specs.Lines.{Line}
 use Rattle.journals.specs.declared.field.Field.{Field}
 use Rattle.journals.specs.declared.field.Field.TheVariants.{Signed, Any}

@@ -7,7 +7,7 @@ ghost use Rattle.std.specs.Prelude.{◌≡◌, ◌<◌, ◌-◌, ◌||◌, not, 
 ghost use Rattle.mpigroup.specs.Groups.{Groups};
 ghost use Rattle.callstore.specs.Recordings.{Lists as CallLists, calls_of};
 ghost use Rattle.callstore.specs.Waves.{is_full};
-ghost use Rattle.windows.specs.Clean.{has_all, has_its_partner, has_its_wave, sees_its_send};
+ghost use Rattle.pairing.specs.Met.{has_all, has_its_partner, has_its_wave, sees_its_send};
 ghost use Rattle.closing.specs.Entries.{lines_at};
 ghost use Rattle.closing.specs.inner.RequestReports.{Tells};
 ghost use Rattle.judging.specs.UnderWay.{first_at, may_be, may_take, moved_of, take, takes_moved, unclean_at};

@@ -4,10 +4,10 @@ use Rattle.std.specs.Prelude.{◌⊎◌}
 use Rattle.std.specs.List.{slice_get}
 use Rattle.std.proofs.lemmas.List.{length-set, length-append}
 use Rattle.std.proofs.lemmas.Bool.{cases_eq}
-use Rattle.arenalist.specs.Numbers.{list_at, sum_to}
-use Rattle.arenalist.specs.inner.Numbers.{count, in_all}
-use Rattle.arenalist.proofs.NumberLemmas.{count-append, count_one, count_other, in_all-set, count_in_all}
-use Rattle.arenalist.proofs.SumLemmas.{sum_both, sum_zero, sum_most, sum_count}
+use Rattle.arenaqueue.specs.Numbers.{list_at, sum_to}
+use Rattle.arenaqueue.specs.inner.Numbers.{count, in_all}
+use Rattle.arenaqueue.proofs.NumberLemmas.{count-append, count_one, count_other, in_all-set, count_in_all}
+use Rattle.arenaqueue.proofs.SumLemmas.{sum_both, sum_zero, sum_most, sum_count}
 use Rattle.moves.specs.inner.Links.{linked_ranks, AreListed}
 
 -- how many ranks stand in lists that change

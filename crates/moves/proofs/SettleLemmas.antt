@@ -12,10 +12,10 @@ use Rattle.mpigroup.specs.Groups.{Groups, group_of}
 use Rattle.callstore.specs.Limits.{most_calls}
 use Rattle.callstore.specs.Recordings.{Lists, calls_of, appended}
 use Rattle.callstore.specs.Waves.{wave_of}
-use Rattle.arenalist.specs.Numbers.{list_at, sum_to}
-use Rattle.arenalist.specs.inner.Numbers.{count, in_all}
-use Rattle.arenalist.proofs.NumberLemmas.{count_in_all, found_in}
-use Rattle.arenalist.proofs.SumLemmas.{sum_least, sum_count}
+use Rattle.arenaqueue.specs.Numbers.{list_at, sum_to}
+use Rattle.arenaqueue.specs.inner.Numbers.{count, in_all}
+use Rattle.arenaqueue.proofs.NumberLemmas.{count_in_all, found_in}
+use Rattle.arenaqueue.proofs.SumLemmas.{sum_least, sum_count}
 use Rattle.callstore.proofs.PlacesLemmas.{no_calls}
 use Rattle.callstore.proofs.RecordingLemmas.{calls_of-appended_other}
 use Rattle.moves.specs.Runs.{State, start, moved, IsReached, IsTheEnd, total}

@@ -15,9 +15,9 @@ use Rattle.callstore.proofs.WaveLemmas.{the_call_in_a_wave_joins_it, no_other_ca
 use Rattle.moves.specs.Runs.{State, moved}
 use Rattle.moves.specs.Stands.{call_count}
 use Rattle.moves.specs.declared.progress.Progress.{Progress}
-use Rattle.arenalist.specs.Numbers.{sum_to}
-use Rattle.arenalist.specs.inner.Numbers.{count}
-use Rattle.arenalist.proofs.SumLemmas.{sum_least, sum_both, sum_zero, sum_count}
+use Rattle.arenaqueue.specs.Numbers.{sum_to}
+use Rattle.arenaqueue.specs.inner.Numbers.{count}
+use Rattle.arenaqueue.proofs.SumLemmas.{sum_least, sum_both, sum_zero, sum_count}
 use Rattle.moves.specs.inner.Waiting.{complete_of, NeedsWave, done_in, done_of, paid_by, paid, cost_of}
 use Rattle.moves.proofs.StayLemmas.{wave_stays}
 use Rattle.moves.proofs.WaveLemmas.{earlier_place}

@@ -19,8 +19,8 @@ use Rattle.pairing.specs.Probed.{probed_envelope, probed_envelope_at, probed_by,
 use Rattle.callstore.proofs.OptionLemmas.{and_then_parts, map_parts}
 use Rattle.pairing.proofs.PartnerLemmas.{numbered_parts, numbered_half}
 use Rattle.pairing.proofs.ProbedLemmas.{prober}
-use Rattle.arenalist.specs.inner.Numbers.{count}
-use Rattle.arenalist.specs.Numbers.{list_at}
+use Rattle.arenaqueue.specs.inner.Numbers.{count}
+use Rattle.arenaqueue.specs.Numbers.{list_at}
 use Rattle.moves.specs.inner.Waiting.{WaitLists, own_list, comm_list, woken, awaits, woken_at, woken_partner, sent_to, sees, prober_of, woken_prober, woken_peers, woken_comm, WaitsFor, HasLists}
 use Rattle.callstore.specs.Waves.{wave_of}
 use Rattle.pairing.specs.Seen.{wave_seen}

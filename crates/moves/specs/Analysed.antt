@@ -5,7 +5,7 @@ use Rattle.moves.specs.declared.reading.Reading.{Reading}
 use Rattle.mpigroup.specs.Groups.{Groups}
 use Rattle.callstore.specs.Recordings.{Lists, calls_of}
 use Rattle.callstore.specs.Requests.{waits_for}
-use Rattle.arenalist.specs.Numbers.{sum_to}
+use Rattle.arenaqueue.specs.Numbers.{sum_to}
 use Rattle.moves.specs.Needs.{may_pass}
 use Rattle.moves.specs.Runs.{State, total}
 use Rattle.moves.specs.Stands.{call_count}

@@ -10,11 +10,10 @@
 //! for.
 
 ghost use Rattle.std.specs.Prelude.{◌≡◌, ◌+◌, ◌<◌, ◌≤◌, [], length, drop, replicate, slice_get, slice_set, IfOk, IfNone, OnOk, OnSome};
-ghost use Rattle.arenalist.specs.Numbers.{list_at};
-ghost use Rattle.arenalist.specs.Arena.{counted};
+ghost use Rattle.arenaqueue.specs.Numbers.{list_at, counted};
 ghost use Rattle.moves.specs.inner.Waiting.{own_list, comm_list, woken, with_rank, with_awaited, woken_at};
 
-use arenalist::queues::Queues;
+use arenaqueue::queues::Queues;
 use std::alloc::{AllocError, Global};
 use std::marker::Model;
 

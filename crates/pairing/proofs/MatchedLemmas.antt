@@ -9,7 +9,7 @@ use Rattle.std.proofs.lemmas.Map.Keys.{apart_from_distinct}
 use Rattle.std.proofs.lemmas.Option.{slice_get_within, get_or_from_slice_get}
 use Rattle.std.proofs.lemmas.Bool.{false≢true, cases_Bool}
 use Rattle.indexmap.specs.IndexSet.{insert_key}
-use Rattle.arenalist.specs.Numbers.{list_at}
+use Rattle.arenaqueue.specs.Numbers.{list_at}
 use Rattle.callstore.specs.declared.envelope.Envelope.{Envelope}
 use Rattle.callstore.specs.declared.envelope.Half.{Half}
 use Rattle.callstore.specs.declared.envelope.Half.TheVariants.{Send as SendHalf, Recv as RecvHalf}

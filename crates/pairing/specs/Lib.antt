@@ -6,5 +6,6 @@ pub mod Work
 pub mod Matched
 pub mod Codes
 pub mod Probed
+pub mod Met
 pub mod Seen
 pub mod inner

@@ -1,7 +1,7 @@
 -- What is done in the arena of the halves that have no partner yet.
 use Rattle.mpicall.specs.Names.{Rank}
 use Rattle.std.specs.Prelude.{ℕ, ◌+◌, if◌then◌else◌, is_some, List, [], ◌∷◌}
-use Rattle.arenalist.specs.Arena.{counted}
+use Rattle.arenaqueue.specs.Numbers.{counted}
 use Rattle.mpicall.specs.declared.call.Call.{Call}
 use Rattle.mpigroup.specs.Groups.{Groups}
 use Rattle.callstore.specs.declared.envelope.Half.TheVariants.{Send as SendHalf, Recv as RecvHalf}

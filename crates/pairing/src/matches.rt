@@ -5,13 +5,13 @@
 //! first of the other side off its list if there is one, and else goes to the end of its own.
 
 ghost use Rattle.std.specs.Prelude.{◌≡◌, ◌+◌, ◌*◌, ◌<◌, ◌≤◌, ◌^◌, [], Some, length, slice_get, min, option_map, true, false, IfOk, IfSome, OnOk};
-ghost use Rattle.arenalist.specs.Arena.{counted};
+ghost use Rattle.arenaqueue.specs.Numbers.{counted};
 ghost use Rattle.callstore.specs.Envelopes.{other_half};
 ghost use Rattle.callstore.specs.declared.envelope.Envelope.{Envelope};
 ghost use Rattle.pairing.specs.inner.Matched.{list_no, number_in, pending_at, pending_by, met, HasNumber, HasPending, HasRoomFor, IsGrown};
 
 use crate::envelope_index::EnvelopeIndex;
-use arenalist::queues::Queues;
+use arenaqueue::queues::Queues;
 use callstore::envelope::{Envelope, Half};
 use callstore::next_call::NextCall;
 use mpigroup::head::Head;

@@ -1,7 +1,7 @@
 //! How the halves of a noted call meet those that are pending.
 
 ghost use Rattle.std.specs.Prelude.{◌≡◌, ◌+◌, ◌≤◌, ◌<◌, Some, option_map, IfSome, is_some};
-ghost use Rattle.arenalist.specs.Arena.{counted};
+ghost use Rattle.arenaqueue.specs.Numbers.{counted};
 ghost use Rattle.callstore.specs.Envelopes.{other_half, rank_of_half};
 ghost use Rattle.callstore.specs.Notes.{partnered};
 ghost use Rattle.callstore.specs.inner.Notes.{recording_of};

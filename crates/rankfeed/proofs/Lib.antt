@@ -1,2 +1,1 @@
 pub mod ItemLemmas
-pub mod RelayLemmas

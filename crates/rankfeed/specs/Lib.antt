@@ -1,6 +1,4 @@
 pub mod Items
 pub mod Answers
 pub mod Rings
-pub mod Relays
-pub mod Channels
 pub mod inner

@@ -1,4 +1,3 @@
 -- What nobody has to believe: these definitions are cited by proofs and private contracts alone.
 pub mod Answers
 pub mod Items
-pub mod Relays

@@ -59,7 +59,7 @@ pub struct Met {
 
 impl Took {
     /// The answer of a taker that comes to this end mark.
-    pub(crate) fn of(end: Ending) -> Took
+    pub fn of(end: Ending) -> Took
         ensures { result ≡ told_end end }
     {
         match end {

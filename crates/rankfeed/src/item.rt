@@ -15,7 +15,7 @@ pub enum Item {
 
 impl Item {
     /// The end mark, where the item is one.
-    pub(crate) fn mark(&self) -> Option<Ending>
+    pub fn mark(&self) -> Option<Ending>
         ensures { result ≡ mark_in (Some self.now) }
     {
         match *self {

@@ -20,13 +20,12 @@
 //! It isn't promised that a full feed has room again, that an item comes to an empty one, or that there
 //! is a receipt: there is none where the taker was dropped before.
 //!
-//! The module `channel` has the same calls over a bounded channel, by the same definitions; there most
+//! The crate `channelfeed` has the same calls over a bounded channel, by the same definitions; there most
 //! calls may wait.
 //!
 //! The definitions are in `specs/`: `Items` says what a feed carries, `Answers` what its answers mean,
-//! `Rings` and `Channels` what contracts see of the two ends. What only proofs and private contracts cite is
-//! in `specs/inner/`, and nobody has to believe it. Of the rule in `Relays` contracts see `left_in` alone,
-//! what a taker of a channel knows to be left.
+//! `Rings` what contracts see of the two ends. What only proofs and private contracts cite is in
+//! `specs/inner/`, and nobody has to believe it.
 //!
 //! ```text
 //! let (mut feed, mut taker) = Feed::open(alloc, rank, 64)?;
@@ -40,7 +39,6 @@
 
 pub mod answer;
 mod bell;
-pub mod channel;
 pub mod item;
 pub mod pause;
 pub mod ring;

@@ -27,7 +27,8 @@ use Rattle.pairing.specs.Partners.{places_of, partner_of}
 use Rattle.pairing.specs.Probed.{probed_of}
 use Rattle.pairing.proofs.PartnerLemmas.{has_it, same_envelope_refl, numbered_half}
 use Rattle.windows.specs.Cuts.{Cut, before_cut, starts_receive, is_moved, first_calls, first_window}
-use Rattle.windows.specs.Clean.{found_at, has_its_partner, sees_its_send, has_its_wave, has_all, takes, none_overtakes, are_in_turn, is_clean_at, is_clean}
+use Rattle.pairing.specs.Met.{found_at, has_its_partner, sees_its_send, has_its_wave, has_all}
+use Rattle.windows.specs.Clean.{takes, none_overtakes, are_in_turn, is_clean_at, is_clean}
 use Rattle.windows.proofs.PlaceCuts.{count, has_place}
 use Rattle.windows.proofs.CutLists.{FailsAlone, InTurn, any_there, first_length, moved_receives}
 use Rattle.windows.proofs.CutWindows.{before_past, first_places, first_count}

@@ -28,7 +28,8 @@ use Rattle.pairing.specs.Matched.{halves_of}
 use Rattle.pairing.specs.Partners.{number_of, places_of, partner_of}
 use Rattle.pairing.proofs.PartnerLemmas.{own_rank, own_place, numbered_half}
 use Rattle.windows.specs.Cuts.{Cut, before_cut, is_moved, without_peer, first_calls, first_window}
-use Rattle.windows.specs.Clean.{found_at, has_its_partner, sees_its_send, has_its_wave, has_all, is_clean_at, IsRightRecording, IsEven}
+use Rattle.pairing.specs.Met.{found_at, has_its_partner, sees_its_send, has_its_wave, has_all}
+use Rattle.windows.specs.Clean.{is_clean_at, IsRightRecording, IsEven}
 use Rattle.windows.specs.Laws.{CleanIsEven}
 use Rattle.windows.proofs.PlaceCuts.{has_place}
 use Rattle.windows.proofs.CutLists.{as_first, first_length}

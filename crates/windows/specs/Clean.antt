@@ -1,25 +1,24 @@
 -- Clean cuts: nothing is under way at them. Each message that was sent before the cut was received before it, and each
 -- collective that a rank called before it has the calls of all members before it.
 use Rattle.mpicall.specs.Names.{Rank, Place, Comm, Request}
-use Rattle.std.specs.Prelude.{◌≡◌, ◌<◌, Bool, true, false, not, ◌&&◌, ◌||◌, ◌==◌, nat_lt, Option, Some, None, is_some, is_none, option_and_then, List, [], ◌∷◌, length, take, slice_get}
+use Rattle.std.specs.Prelude.{◌≡◌, ◌<◌, Bool, true, false, not, ◌&&◌, ◌||◌, ◌==◌, nat_lt, Some, None, List, [], ◌∷◌, length, take, slice_get}
 use Rattle.std.specs.List.{list_any, list_all, range_with_len}
 use Rattle.std.specs.Option.{option_map_or}
 use Rattle.mpicall.specs.declared.call.Call.{Call}
 use Rattle.mpicall.specs.declared.call.Call.TheVariants.{Split}
 use Rattle.mpigroup.specs.Groups.{Groups, group_of}
 use Rattle.callstore.specs.declared.envelope.Envelope.{Envelope}
-use Rattle.callstore.specs.declared.envelope.Half.{Half}
 use Rattle.callstore.specs.declared.envelope.Half.TheVariants.{Send as SendHalf, Recv as RecvHalf}
 use Rattle.callstore.specs.Recordings.{Lists, calls_of, has_end, IsClosed}
-use Rattle.callstore.specs.Envelopes.{message_of, probed_message, envelope_of, has_envelope, same_envelope}
+use Rattle.callstore.specs.Envelopes.{envelope_of, has_envelope, same_envelope}
 use Rattle.callstore.specs.Places.{places}
 use Rattle.callstore.specs.Requests.{waits_for, is_among}
 use Rattle.callstore.specs.Communicators.{comm_of, makes}
-use Rattle.callstore.specs.Waves.{does_join, wave_of, is_full}
+use Rattle.callstore.specs.Waves.{does_join}
 use Rattle.pairing.specs.Faults.{comm_exists, is_member, peers_exist, starts_afresh, are_distinct, waits_for_active}
 use Rattle.pairing.specs.Matched.{halves_of}
-use Rattle.pairing.specs.Partners.{partner_of}
-use Rattle.pairing.specs.Probed.{probed_envelope, probed_of}
+use Rattle.pairing.specs.Met.{sees_its_send, has_all}
+use Rattle.pairing.specs.Probed.{probed_envelope}
 use Rattle.windows.specs.Cuts.{Cut, before_cut, is_moved, first_calls, first_window}
 
 -- ---- What is cut ----
@@ -50,30 +49,6 @@ pub record IsRightRecording (groups : Groups) (recording : Lists) : Type 0 where
   pub are_right : (rank : Rank) (place : Place) (call : Call) → slice_get (calls_of recording rank) place ≡ Some call → is_right groups rank (take place (calls_of recording rank)) call ≡ true
 
 -- ---- Where it may be cut ----
-
--- what the call at the place has by a test of calls; nothing where there is none
-abbrev pub found_at : {A : Type 0} → (Call → Option A) → Lists → Rank → Place → Option A
-found_at test recording rank place = option_and_then test (slice_get (calls_of recording rank) place)
-
--- the half of the call's message has its partner, if the call has such a message
-abbrev pub has_its_partner : Groups → Lists → Rank → Place → Half → Bool
-has_its_partner groups recording rank place half =
-    is_none (found_at (message_of half) recording rank place) || is_some (partner_of groups recording rank place half)
-
--- the call sees a send, if it is a probe for a message
-abbrev pub sees_its_send : Groups → Lists → Rank → Place → Bool
-sees_its_send groups recording rank place =
-    is_none (found_at probed_message recording rank place) || is_some (probed_of groups recording rank place)
-
--- each member has its call of the call's wave, if it joins one
-abbrev pub has_its_wave : Groups → Lists → Rank → Place → Bool
-has_its_wave groups recording rank place = option_map_or (λ wave. is_full groups recording wave.0 wave.1) (wave_of recording rank place) true
-
--- all whom the call meets are in the recording
-abbrev pub has_all : Groups → Lists → Rank → Place → Bool
-has_all groups recording rank place =
-    has_its_partner groups recording rank place SendHalf && has_its_partner groups recording rank place RecvHalf
-    && sees_its_send groups recording rank place && has_its_wave groups recording rank place
 
 -- the rank's call receives a message of the envelope, or probes for one
 abbrev pub takes : Groups → Rank → Envelope → Call → Bool

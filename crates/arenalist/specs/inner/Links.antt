@@ -1,7 +1,7 @@
 -- The links of an arena's cells.
 use Rattle.std.specs.Prelude.{◌≡◌, ℕ, ◌<◌, ◌^◌, List, [], ◌∷◌, length, get_or, set, Option, Some, None}
-use Rattle.arenalist.specs.Numbers.{list_at}
-use Rattle.arenalist.specs.inner.Numbers.{count}
+use Rattle.arenaqueue.specs.Numbers.{list_at}
+use Rattle.arenaqueue.specs.inner.Numbers.{count}
 use Rattle.arenalist.specs.inner.Rings.{AreLinked, rings_of, lists_of}
 
 -- each list's own cell, the cells in each list, and how many cells there are

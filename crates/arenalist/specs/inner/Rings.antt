@@ -1,7 +1,8 @@
 -- Rings of cells by their links. A ring begins and ends at a cell of its own, its head.
 use Rattle.std.specs.Prelude.{◌≡◌, ℕ, zero, suc, ◌<◌, ◌≤◌, List, [], ◌∷◌, length, get_or, set, map, drop, ◌==◌, if◌then◌else◌}
-use Rattle.arenalist.specs.Numbers.{list_at}
-use Rattle.arenalist.specs.inner.Numbers.{count, in_all}
+use Rattle.arenaqueue.specs.Numbers.{list_at}
+use Rattle.arenaqueue.specs.inner.Numbers.{count, in_all}
+use Rattle.arenaqueue.specs.inner.Chains.{Leads}
 
 -- from `a` over the cells to `z`, by the links there and back
 abbrev pub Chain : List ℕ → List ℕ → ℕ → List ℕ → ℕ → Type 0
@@ -56,11 +57,6 @@ prevs_spliced nexts prevs t f = set (set (set prevs (get_or nexts f 0) (get_or p
 -- the cells from a head to where its ring closes
 abbrev pub around : List ℕ → ℕ → List ℕ
 around nexts h = walk nexts (length nexts) h h
-
--- `c` is the first of the cells, each is linked to the one after it, and the last to `z`
-abbrev pub Leads : List ℕ → ℕ → List ℕ → ℕ → Type 0
-Leads nexts c [] z = c ≡ z
-Leads nexts c (x ∷ xs) z = (c ≡ x) × Leads nexts (get_or nexts x 0) xs z
 
 -- the links there lead from the head round to it
 pub record IsRound (nexts : List ℕ) (h : ℕ) : Type 0 where

@@ -1,6 +1,6 @@
 -- The values that an arena keeps by cell, and the cells that are spare.
 use Rattle.std.specs.Prelude.{◌≡◌, ℕ, ◌+◌, ◌<◌, ◌≤◌, true, Option, Some, None, is_some, List, [], ◌∷◌, ◌++◌, length, get_or, map}
-use Rattle.arenalist.specs.inner.Numbers.{count, in_all}
+use Rattle.arenaqueue.specs.inner.Numbers.{count, in_all}
 
 abbrev pub entry_of : {T : Type 0} → ℕ → Option T → List (ℕ × T)
 entry_of n None = []

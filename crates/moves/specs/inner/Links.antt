@@ -1,7 +1,7 @@
 -- Lists of ranks: list 0 has the ranks to look at, each other list ranks that wait for one thing.
 use Rattle.std.specs.Prelude.{◌≡◌, ℕ, ◌+◌, ◌<◌, ◌≤◌, List, [], ◌∷◌, length}
-use Rattle.arenalist.specs.Numbers.{list_at}
-use Rattle.arenalist.specs.inner.Numbers.{count, in_all}
+use Rattle.arenaqueue.specs.Numbers.{list_at}
+use Rattle.arenaqueue.specs.inner.Numbers.{count, in_all}
 
 -- how many ranks all lists have together
 abbrev pub linked_ranks : List (List ℕ) → ℕ

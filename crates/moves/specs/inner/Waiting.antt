@@ -24,9 +24,8 @@ use Rattle.moves.specs.inner.Links.{linked_ranks, AreListed}
 use Rattle.moves.specs.Needs.{half_needs, probe_needs, sends_freely, operation_needs_at, request_needs, needs_of_call, is_met, may_pass, can_move}
 use Rattle.moves.specs.Runs.{State, IsReached, total}
 use Rattle.moves.specs.Stands.{call_count}
-use Rattle.arenalist.specs.Numbers.{list_at, sum_to}
-use Rattle.arenalist.specs.inner.Numbers.{in_all}
-use Rattle.arenalist.specs.Arena.{counted}
+use Rattle.arenaqueue.specs.Numbers.{list_at, sum_to, counted}
+use Rattle.arenaqueue.specs.inner.Numbers.{in_all}
 
 -- what the messages of the call at a place need: the partners of its halves, and the send that it probes for
 abbrev pub message_needs : Reading → Groups → Lists → ℕ → ℕ → Call → List Need

@@ -1,8 +1,7 @@
 -- What proofs and private contracts cite, in addition to the definitions of `specs/Matched.antt`.
 use Rattle.std.specs.Prelude.{◌≡◌, ℕ, ◌+◌, ◌*◌, ◌<◌, ◌≤◌, Bool, true, false, ◌&&◌, Option, Some, None, IfSome, option_map, if◌then◌else◌, is_some, List, [], ◌∷◌, ◌++◌, length, drop, slice_get, slice_set, position}
 use Rattle.std.specs.Option.{option_map_or}
-use Rattle.arenalist.specs.Arena.{counted}
-use Rattle.arenalist.specs.Numbers.{list_at}
+use Rattle.arenaqueue.specs.Numbers.{counted, list_at}
 use Rattle.mpicall.specs.declared.call.Call.{Call}
 use Rattle.mpigroup.specs.Groups.{Groups}
 use Rattle.callstore.specs.declared.envelope.Envelope.{Envelope}

@@ -1,7 +1,7 @@
 use Rattle.std.proofs.Common.{◌≡◌, ◌<◌, ◌∙◌, ℕ, get_or, length, sym, ap, arith, Some}
 use Rattle.std.proofs.lemmas.List.{get_or_read}
-use Rattle.arenalist.specs.Numbers.{list_at}
-use Rattle.arenalist.specs.inner.Numbers.{first_of}
+use Rattle.arenaqueue.specs.Numbers.{list_at}
+use Rattle.arenaqueue.specs.inner.Numbers.{first_of}
 use Rattle.arenalist.specs.inner.Links.{Linked}
 use Rattle.arenalist.proofs.LinkLemmas.{long_lists, its, home, ahead}
 use Rattle.arenalist.proofs.links.Links.first.Goals as goal

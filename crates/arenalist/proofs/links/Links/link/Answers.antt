@@ -1,7 +1,7 @@
 use Rattle.std.proofs.Common.{◌≡◌, ◌<◌, ◌++◌, ◌∷◌, [], ◌∙◌, get_or, set, length, refl, ap, arith}
 use Rattle.std.proofs.lemmas.List.{get_or_read}
-use Rattle.arenalist.specs.Numbers.{list_at}
-use Rattle.arenalist.specs.inner.Numbers.{in_all}
+use Rattle.arenaqueue.specs.Numbers.{list_at}
+use Rattle.arenaqueue.specs.inner.Numbers.{in_all}
 use Rattle.arenalist.specs.inner.Rings.{rings_of}
 use Rattle.arenalist.specs.inner.Links.{Linked}
 use Rattle.arenalist.proofs.LinkLemmas.{linking, links_linked, in_rings, long_lists, its}

@@ -1,5 +1,5 @@
 use Rattle.std.proofs.Common.{◌∙◌, map, refl, ap, arith}
-use Rattle.arenalist.specs.inner.Numbers.{without}
+use Rattle.arenaqueue.specs.inner.Numbers.{without}
 use Rattle.arenalist.specs.inner.Links.{Linked}
 use Rattle.arenalist.proofs.LinkLemmas.{unlinking, links_unlinked}
 use Rattle.arenalist.proofs.links.Links.unlink.Goals as goal

@@ -1,5 +1,5 @@
 use Rattle.std.proofs.Common.{◌≡◌, ◌∙◌, ℕ, length, sym, ap, arith}
-use Rattle.arenalist.specs.Numbers.{list_at}
+use Rattle.arenaqueue.specs.Numbers.{list_at}
 use Rattle.arenalist.specs.Arena.{Arena, spliced}
 use Rattle.arenalist.specs.inner.Slots.{entries_of}
 use Rattle.arenalist.proofs.EntryLemmas.{entries_at, long_entries}

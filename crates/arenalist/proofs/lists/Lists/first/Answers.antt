@@ -1,6 +1,6 @@
 use Rattle.std.proofs.Common.{◌≡◌, ◌∙◌, ℕ, sym, ap, subst, Some}
-use Rattle.arenalist.specs.Numbers.{list_at}
-use Rattle.arenalist.specs.inner.Numbers.{first_of}
+use Rattle.arenaqueue.specs.Numbers.{list_at}
+use Rattle.arenaqueue.specs.inner.Numbers.{first_of}
 use Rattle.arenalist.specs.Arena.{Arena, first_node, IsFirst}
 use Rattle.arenalist.proofs.EntryLemmas.{entries_at, entries_first}
 use Rattle.arenalist.proofs.ArenaLemmas.{is_first, valued_in}

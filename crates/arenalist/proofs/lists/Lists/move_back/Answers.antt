@@ -1,7 +1,7 @@
 use Rattle.std.proofs.Common.{◌≡◌, ◌<◌, ◌∙◌, Some, None, get_or, length, map, refl, sym, ap, arith}
-use Rattle.arenalist.specs.inner.Numbers.{without}
+use Rattle.arenaqueue.specs.inner.Numbers.{without}
 use Rattle.arenalist.specs.Arena.{Arena, value_at, unlinked, linked}
-use Rattle.arenalist.proofs.NumberLemmas.{in_all_without_same}
+use Rattle.arenaqueue.proofs.NumberLemmas.{in_all_without_same}
 use Rattle.arenalist.proofs.EntryLemmas.{standing, at_some, entries_unlinked, entries_linked, long_entries}
 use Rattle.arenalist.proofs.ArenaLemmas.{given, moved}
 use Rattle.arenalist.proofs.lists.Lists.move_back.Goals as goal

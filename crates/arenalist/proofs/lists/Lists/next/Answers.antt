@@ -1,10 +1,10 @@
 use Rattle.std.proofs.Common.{◌≡◌, ◌<◌, ◌∙◌, ℕ, List, Some, sym, ap, subst, arith}
 use Rattle.std.specs.Prelude.{IsSome}
-use Rattle.arenalist.specs.Numbers.{list_at}
-use Rattle.arenalist.specs.inner.Numbers.{count, after, first_of}
+use Rattle.arenaqueue.specs.Numbers.{list_at}
+use Rattle.arenaqueue.specs.inner.Numbers.{count, after, first_of}
 use Rattle.arenalist.specs.Arena.{Arena, value_in, first_node, behind}
 use Rattle.arenalist.specs.inner.Slots.{entries}
-use Rattle.arenalist.proofs.NumberLemmas.{count_after}
+use Rattle.arenaqueue.proofs.NumberLemmas.{count_after}
 use Rattle.arenalist.proofs.EntryLemmas.{standing, standing_in, entries_at, entries_behind, entries_first}
 use Rattle.arenalist.proofs.ArenaLemmas.{valued_in}
 use Rattle.arenalist.proofs.lists.Lists.next.Goals as goal

@@ -1,6 +1,6 @@
 use Rattle.std.proofs.Common.{◌≡◌, ◌∙◌, ℕ, ◌++◌, ◌∷◌, [], set, ap, sym}
-use Rattle.arenalist.specs.Queued.{Queued}
-use Rattle.arenalist.specs.Numbers.{list_at}
+use Rattle.arenaqueue.specs.Queued.{Queued}
+use Rattle.arenaqueue.specs.Numbers.{list_at}
 use Rattle.callstore.specs.Envelopes.{other_half}
 use Rattle.pairing.specs.inner.Matched.{Matching, list_no, met}
 use Rattle.pairing.proofs.MatchedLemmas.{met_popped, met_pushed}

@@ -1,7 +1,0 @@
-use Rattle.std.proofs.Common.{Some, None, sym}
-use Rattle.arenalist.specs.declared.cells.Cell.{Cell}
-use Rattle.arenalist.proofs.CellLemmas.{read_at}
-use Rattle.arenalist.proofs.cells.value.Goals as goal
-
-pub returns : goal.returns
-returns g c = sym (read_at (λ (cell : Cell g.row.T.Denot). Some cell.value) c.args.cells.now.items c.args.cell c.index.result.now None c.requires c.index.ensures)

@@ -1,5 +1,0 @@
-use Rattle.arenalist.proofs.QueueLemmas.{none_at_first}
-use Rattle.arenalist.proofs.queues.Queues.new.Goals as goal
-
-pub invariant_of-result : goal.invariant_of-result
-invariant_of-result g c = rw (c.new.ensures.items, c.new-2.ensures.items) none_at_first

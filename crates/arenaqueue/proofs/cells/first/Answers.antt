@@ -1,0 +1,6 @@
+use Rattle.arenaqueue.specs.declared.cells.Ends.{Ends}
+use Rattle.arenaqueue.proofs.CellLemmas.{read_at}
+use Rattle.arenaqueue.proofs.cells.first.Goals as goal
+
+pub returns : goal.returns
+returns c = read_at (λ (e : Ends). e.first) c.args.ends.now.items c.args.list c.index.result.now 0 c.requires c.index.ensures

@@ -1,0 +1,4 @@
+-- What nobody has to believe: these definitions are cited by proofs and private contracts alone.
+pub mod Cells
+pub mod Chains
+pub mod Numbers

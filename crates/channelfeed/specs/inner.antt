@@ -1,0 +1,2 @@
+-- What nobody has to believe: these definitions are cited by proofs and private contracts alone.
+pub mod Relays

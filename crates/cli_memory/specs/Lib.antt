@@ -1,0 +1,4 @@
+pub mod MemoryFiles
+pub mod HeadToHead
+pub mod InMemory
+pub mod JournalsInMemory
