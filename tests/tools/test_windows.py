@@ -87,28 +87,52 @@ class Closed(Cut):
 
 
 class Interrupted(Cut):
-    def test_a_signal_while_windows_are_judged(self):
-        """It ends the checker, no other one begins, and all windows stay."""
+    # by a thread: the main one isn't woken, as where a signal comes just before it waits
+    IN_A_THREAD = """
+import signal, threading, time
+def send():
+    while not Path(BEGUN).exists():
+        time.sleep(0.05)
+    time.sleep(0.5)
+    signal.pthread_kill(one.thread.ident, signal.SIGTERM)
+threading.Thread(target=send, daemon=True).start()
+"""
+
+    def judging(self, more=""):
         self.put(FREE, FREE, FREE, LAST)
         self.write("checker", f"#!/bin/sh\necho $$ >>'{self.folder}/begun'\nexec sleep 600\n")
         (self.folder / "checker").chmod(0o755)
         text = "from pathlib import Path; from companions import runs, script, windows\n" \
             f"one = windows.Judging(Path({str(self.folder / 'journal')!r}), runs.Judge(nice=1), False, None)\n" \
+            f"{more.replace('BEGUN', repr(str(self.folder / 'begun')))}" \
             "script.run_script(lambda _: (one.thread.start(), one.end()))"
         environment = os.environ | {"MPIWAIT": str(self.folder / "checker")}
         words = ["env", "--default-signal=TERM", sys.executable, "-c", text]
-        running = subprocess.Popen(words, cwd=TOP / "tools", env=environment, stderr=subprocess.PIPE, text=True)
+        return subprocess.Popen(words, cwd=TOP / "tools", env=environment, stderr=subprocess.PIPE, text=True)
+
+    def ended(self, running):
+        try:
+            _, said = running.communicate(timeout=30)
+        finally:
+            running.kill()
+            begun = self.read("begun").split()
+            left = [one for one in begun if Path(f"/proc/{one}").exists()]
+            for one in left:
+                os.kill(int(one), signal.SIGKILL)
+        self.assertEqual((running.returncode, said, left), (4, "tools/-c: it was interrupted\n", []))
+        self.assertEqual((len(begun), self.there()), (1, [1, 2, 3, 4]))
+
+    def test_a_signal_while_windows_are_judged(self):
+        """It ends the checker, no other one begins, and all windows stay."""
+        running = self.judging()
         until = time.monotonic() + 30
         while not (self.folder / "begun").exists() and time.monotonic() < until:
             time.sleep(0.05)
         running.terminate()
-        _, said = running.communicate(timeout=30)
-        begun = self.read("begun").split()
-        left = [one for one in begun if Path(f"/proc/{one}").exists()]
-        for one in left:
-            os.kill(int(one), signal.SIGKILL)
-        self.assertEqual((running.returncode, said, left), (4, "tools/-c: it was interrupted\n", []))
-        self.assertEqual((len(begun), self.there()), (1, [1, 2, 3, 4]))
+        self.ended(running)
+
+    def test_a_signal_that_does_not_wake_the_main_thread(self):
+        self.ended(self.judging(self.IN_A_THREAD))
 
 
 class Judged(Cut):

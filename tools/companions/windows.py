@@ -203,7 +203,8 @@ class Judging:
     def end(self):
         """Judges what still waits. Answers the windows of each run, by its folder."""
         self.is_over.set()
-        self.thread.join()
+        while self.thread.is_alive():  # a signal that comes just before a wait is heeded only after it
+            self.thread.join(PAUSE)
         for one in self.all():
             while one.catch_up():
                 pass
