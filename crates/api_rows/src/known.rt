@@ -161,6 +161,7 @@ impl Known {
             findings: graph.findings(),
             left: &[],
             lines: &[],
+            held: None,
         };
         let run = PendingRun {
             analyser: run,

@@ -1,5 +1,5 @@
 -- The options of a check: what clap is asked to read of each, and their values.
-use Rattle.std.specs.Prelude.{ℕ, true, false, Option, Some, None, List, [], ◌∷◌, codes, option_and_then, bytes_eq, if◌then◌else◌}
+use Rattle.std.specs.Prelude.{ℕ, Bool, true, false, Option, Some, None, List, [], ◌∷◌, codes, option_and_then, bytes_eq, if◌then◌else◌}
 use Rattle.std.specs.Option.{option_map_or}
 use Rattle.clap.specs.Walk.{Row, Rule, Text, first_of}
 use Rattle.clap.specs.Simple.{new_rule}
@@ -46,9 +46,13 @@ progress_rule = record (new_rule (codes "progress")) {
 abbrev pub option_rules : List Rule
 option_rules = json_rule ∷ capacity_rule ∷ eager_rule ∷ progress_rule ∷ []
 
--- JSON where the flag is noted as given, and else text
+-- the flag is noted as given
+abbrev pub is_given : Option Text → Bool
+is_given flag = option_map_or (λ value. bytes_eq value (codes "true")) flag false
+
+-- JSON where the flag is given, and else text
 abbrev pub format_of : Option Text → Format
-format_of flag = if option_map_or (λ value. bytes_eq value (codes "true")) flag false then format.Json else format.Text
+format_of flag = if is_given flag then format.Json else format.Text
 
 -- the number of records that the option names
 abbrev pub capacity_of : Option Text → Option ℕ

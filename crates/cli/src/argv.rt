@@ -12,6 +12,7 @@ ghost use Rattle.cli.specs.Statuses.{code_of};
 ghost use Rattle.cli.specs.declared.argv.WordsFault.TheVariants.{NoMemory};
 
 use crate::folder::with_files;
+use crate::held_words::with_ranks;
 use crate::opener::{Maker, Opener};
 use crate::program::{program, write_error};
 use crate::shown::Screen;
@@ -126,6 +127,7 @@ where
     ensures untouched { OnErr result ((out.new ≡ out.old) × (err.new ≡ err.old)) }
 {
     let words = with_files(given.alloc(), opener, words_given(given)?)?;
+    let words = with_ranks(given.alloc(), words)?;
     let texts = as_texts(given.alloc(), words.as_slice())?;
     let words = texts.as_slice();
     Ok(program(given.alloc(), words, opener, maker, rt, out, err, screen))

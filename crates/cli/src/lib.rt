@@ -1,8 +1,8 @@
 //! The program `mpiwait` over any words, files and outputs: what its words ask for, the check, the lint, the
 //! judgement or the closing that does it, its texts and its exit statuses.
 //!
-//! - `argv::run` runs it on the words of the process, in which a folder is replaced by its files, and gives what
-//!   ends the process with the status.
+//! - `argv::run` runs it on the words of the process, in which a folder is replaced by its files and `--held=R,..` by
+//!   an option for each rank, and gives what ends the process with the status.
 //! - `program::program` runs it on words that are texts, and gives the status.
 //! - `opener::Opener` is what opens the files that the words name, and `opener::Maker` what makes the folder of a
 //!   recording; `opener::Disk` does both on the machine. The crate `cli_memory` has both in memory, where texts are known.
@@ -21,6 +21,7 @@ pub mod command_line;
 pub mod fault;
 mod folder;
 mod found;
+mod held_words;
 mod journal_folder;
 pub mod limit;
 mod lint;

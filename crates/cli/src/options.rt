@@ -4,8 +4,8 @@
 ghost use Rattle.std.specs.Prelude.{◌≡◌, false, All, IfOk, map, option_map};
 ghost use Rattle.clap.specs.Matches.{found_of};
 ghost use Rattle.clap.specs.Walk.{rows_of, rule_of};
-ghost use Rattle.cli.specs.Options.{capacity_of, capacity_rule, eager_rule, format_of, given, json_rule, option_rules, options_of, progress_rule};
-ghost use Rattle.cli.specs.inner.Options.{is_given, is_shown};
+ghost use Rattle.cli.specs.Options.{capacity_of, capacity_rule, eager_rule, format_of, given, is_given, json_rule, option_rules, options_of, progress_rule};
+ghost use Rattle.cli.specs.inner.Options.{is_shown};
 
 use crate::capacity::{Capacity, LEAST, MOST};
 use crate::found::text_of;
@@ -123,7 +123,7 @@ fn given(reading: Option<Reading>, format: Format, capacity: Option<Capacity>) -
 }
 
 /// Whether a flag is given.
-fn is_given(flag: Option<&str>) -> bool
+pub(crate) fn is_given(flag: Option<&str>) -> bool
     ensures { result ≡ is_given (option_map (λ value. value.now) flag.entry) }
 {
     match flag {

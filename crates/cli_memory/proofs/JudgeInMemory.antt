@@ -100,6 +100,7 @@ module _ (known : Known) (manner : Manner) (first : Text) (texts : ℕ → Optio
             are_causes = is.are_causes;
             is_text = is.is_text;
             names = is.names;
+            held_said = is.held_said;
           },
           ends.status_is,
           wrote failures old new out ends.report output ends.output,

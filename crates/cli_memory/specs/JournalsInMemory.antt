@@ -19,6 +19,7 @@ use Rattle.closing.specs.Recording.{recording_of}
 use Rattle.closing.specs.Recordings.{choice_in}
 use Rattle.closing.specs.declared.choice.Choice.{Choice}
 use Rattle.judging.specs.Closing.{AreFilesOf}
+use Rattle.judging.specs.HeldSaid.{IsHeldSaid}
 use Rattle.judging.specs.Judging.{IsRecordingOfRun}
 use Rattle.judging.specs.KnownCalls.{calls_at_opens, judged_choice}
 use Rattle.judging.specs.NamedCalls.{HaveLines, calls_in, calls_named}
@@ -56,6 +57,7 @@ pub record IsReportOfRun (run : Run) (manner : Manner) (verdict : Verdict) (repo
   pub are_causes : AreCausesBy manner.reading groups recording pending causes
   pub is_text : report ≡ pending_report manner.format manner.reading groups recording verdict pending.pending at_open causes judged
   pub names : HaveLines (calls_in manner.format (calls_named manner.reading groups recording judged.findings.now ++ calls_at_opens manner.reading groups recording pending at_open)) judged.lines.now
+  pub held_said : IsHeldSaid manner.reading groups recording pending manner.held judged.findings.now judged.held
 
 -- The end of a judgement by the texts of the journals, that of rank 0 and those of other ranks. One of the three holds of
 -- each texts: they have a fault; they hold a run whose cut isn't clean; or report and verdict are those of their run.

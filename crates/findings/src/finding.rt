@@ -23,7 +23,7 @@ mod making;
 pub mod request;
 pub mod root;
 pub mod unreceived;
-mod wave;
+pub mod wave;
 
 /// A finding over the whole recording, whether its calls are reached or not. Waves are numbered from 0 for
 /// each communicator; `member` is a rank of the communicator's group, and rank 0 of that group is what it is

@@ -79,6 +79,7 @@ module _ (known : Known) (manner : Manner) (begun : RecordingView) (run : IsRunO
       are_causes = of.reported.are_causes;
       is_text = of.reported.is_text;
       names = of.lines.names;
+      held_said = of.held;
       of_run = of_run;
       of_none_refused = run.none_refused;
       free_is_whole = free_is_whole;

@@ -22,3 +22,4 @@ pub mod PlainLemmas
 pub mod TableLemmas
 pub mod UnderWayLemmas
 pub mod FreeLemmas
+pub mod HeldLemmas

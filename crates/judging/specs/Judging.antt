@@ -35,6 +35,7 @@ use Rattle.closing.specs.declared.choice.Calls.{Calls}
 use Rattle.closing.specs.declared.choice.Calls.TheVariants.{Strict, Went}
 use Rattle.closing.specs.declared.why.Why.{Why}
 use Rattle.closing.specs.declared.why.Why.TheVariants as why
+use Rattle.judging.specs.HeldSaid.{IsHeldSaid}
 use Rattle.judging.specs.JournalTexts.{Known, AreKnown, IsFaultOfFiles}
 use Rattle.judging.specs.KnownCalls.{calls_at_opens, judged_choice, known_of}
 use Rattle.judging.specs.NamedCalls.{HaveLines, HaveNumbers, calls_in, calls_named, lines_of}
@@ -117,6 +118,7 @@ pub record IsJudgedReport (known : Known) (manner : Manner) (verdict : Verdict) 
   pub are_causes : AreCausesBy manner.reading groups recording pending causes
   pub is_text : report ≡ pending_report manner.format manner.reading groups recording verdict pending.pending at_open causes judged
   pub names : HaveLines (calls_in manner.format (calls_named manner.reading groups recording judged.findings.now ++ calls_at_opens manner.reading groups recording pending at_open)) judged.lines.now
+  pub held_said : IsHeldSaid manner.reading groups recording pending manner.held judged.findings.now judged.held
   pub of_run : (first : List ℕ) (texts : ℕ → Option (List ℕ)) (run : Run) → AreKnown known (length run) first texts →
       run_of first texts ≡ Ok run → IsRecordingOfRun run (judged_choice manner.choice) groups recording pending judged
   pub of_none_refused : (first : List ℕ) (texts : ℕ → Option (List ℕ)) (fault : RankFault) → AreKnown known MOST_RANKS first texts →

@@ -3,6 +3,7 @@ pub mod JournalTexts
 pub mod NamedCalls
 pub mod KnownCalls
 pub mod UnderWay
+pub mod HeldSaid
 pub mod Judging
 pub mod WithoutPending
 pub mod inner

@@ -2,6 +2,7 @@
 pub mod Closed
 pub mod Cuts
 pub mod Heads
+pub mod Held
 pub mod Known
 pub mod OneJournal
 pub mod Reported

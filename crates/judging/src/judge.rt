@@ -25,6 +25,7 @@ ghost use Rattle.judging.specs.inner.Unwritten.{IsOfRecording, IsUnwritten};
 ghost use Rattle.judging.specs.declared.judge.JudgeFault.TheVariants.{Memory};
 
 use crate::head::head_text;
+use crate::held::{held_of, said_of};
 use crate::known::{Known, known_of};
 use crate::read::{Journals, ReadFault, read_journals};
 use crate::reported::reported_findings;
@@ -90,7 +91,12 @@ pub struct Manner {
     pub choice: Choice,
     pub reading: Reading,
     pub format: Format,
+    /// The ranks of which a JSON report says whether they are held, by a mark for each; None if it says it of none.
+    pub held: Option<[bool; RANKS_ASKED]>,
 }
+
+/// How many ranks can be asked for: as many as a run can have.
+pub const RANKS_ASKED: usize = 1024;
 
 /// The head of a recording.
 fn head_of(alloc: Global, recording: &Recording) -> Result<Head, JudgeFault>
@@ -363,10 +369,13 @@ fn report<O: Output>(
         known,
         manner,
     )?;
+    let held = held_of(alloc, analyser, known, findings.as_slice(), manner.held)?;
+    let said = said_of(&held);
     let judged = Judged {
         findings: findings.as_slice(),
         left: left.as_slice(),
         lines: lines.as_slice(),
+        held: said,
     };
     write_report(alloc, analyser, graph, known, &judged, manner, out)
 }

@@ -12,6 +12,8 @@ use Rattle.serde_json.specs.Written.{has_float, items_have_float}
 use Rattle.serde_json.specs.declared.value.Value.{Value}
 use Rattle.waitgraph.specs.Causes.{CauseView, CycleOf, MissingOf, StarvedOf, view_of}
 use Rattle.report.specs.JsonReport.{numeral, each, need_data, rank_data, cause_data}
+use Rattle.report.specs.Judged.{call_data}
+use Rattle.report.specs.declared.judged.CallOf.{CallOf}
 use Rattle.std.proofs.lemmas.Bool.{cases_Bool}
 use Rattle.waitgraph.specs.Pending.{PendingView}
 use Rattle.waitgraph.specs.PendingNeeds.{awaited_in}
@@ -74,3 +76,7 @@ no_float_cause (StarvedOf rank) = refl
 
 pub no_float_causes : (causes : List CauseView) → has_float (each cause_data causes) ≡ false
 no_float_causes causes = no_float_told cause_data no_float_cause causes
+
+-- so have calls
+pub no_float_calls : (calls : List CallOf) → has_float (each call_data calls) ≡ false
+no_float_calls calls = no_float_told call_data (λ call. refl) calls

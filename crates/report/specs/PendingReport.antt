@@ -22,8 +22,9 @@ use Rattle.waitgraph.specs.declared.pending.Item.{Item}
 use Rattle.waitgraph.specs.declared.pending.Item.TheVariants as wanted_item
 use Rattle.waitgraph.specs.declared.verdict.Verdict.{Verdict}
 use Rattle.report.specs.JsonReport.{numeral, spaced, each, need_data, cause_data, finding_data, rank_data}
-use Rattle.report.specs.Judged.{left_line, left_data, line_data}
+use Rattle.report.specs.Judged.{left_line, left_data, line_data, with_finding_calls, with_held}
 use Rattle.report.specs.TextReport.{line, need_fields, verdict_line, verdict_text, rank_lines, cause_line, finding_line}
+use Rattle.report.specs.declared.judged.HeldRanks.{HeldRanks}
 use Rattle.report.specs.declared.judged.Judged.{Judged}
 use Rattle.report.specs.declared.judged.LeftAt.{LeftAt}
 use Rattle.report.specs.declared.judged.LineAt.{LineAt}
@@ -101,22 +102,24 @@ abbrev pub data_of_rank : Reading → Groups → Lists → List PendingView → 
 data_of_rank reading groups recording pending at_open rank =
     if has_unmet reading groups recording rank then rank_data reading groups recording rank else at_open_data reading groups recording (pending_of pending rank) at_open rank
 
--- `{"causes":[..],"findings":[..],"left":[..],"lines":[..],"ranks":[..],"verdict":..}`
-unfoldable pub pending_data : Reading → Groups → Lists → Verdict → List PendingView → List (List Awaited) → List CauseView → List Finding → List LeftAt → List LineAt → Data
-pending_data reading groups recording verdict pending at_open causes findings left lines =
+-- `{"causes":[..],"findings":[..],"left":[..],"lines":[..],"ranks":[..],"verdict":..}`, and with what is asked for of held ranks
+unfoldable pub pending_data : Reading → Groups → Lists → Verdict → List PendingView → List (List Awaited) → List CauseView → List Finding → List LeftAt → List LineAt → Option HeldRanks → Data
+pending_data reading groups recording verdict pending at_open causes findings left lines held =
     object (member (codes "causes") (each cause_data causes)
+    (with_finding_calls held
     (member (codes "findings") (each finding_data findings)
+    (with_held held
     (member (codes "left") (each left_data left)
     (member (codes "lines") (each line_data lines)
     (member (codes "ranks") (each (data_of_rank reading groups recording pending at_open) (filter (has_lines reading groups recording at_open) (range_with_len 0 (length recording))))
-    (member (codes "verdict") (string (verdict_text verdict)) no_members))))))
+    (member (codes "verdict") (string (verdict_text verdict)) no_members))))))))
 
-unfoldable pub pending_json : Reading → Groups → Lists → Verdict → List PendingView → List (List Awaited) → List CauseView → List Finding → List LeftAt → List LineAt → List ℕ
-pending_json reading groups recording verdict pending at_open causes findings left lines =
-    compact_text (pending_data reading groups recording verdict pending at_open causes findings left lines) ++ line_feed ∷ []
+unfoldable pub pending_json : Reading → Groups → Lists → Verdict → List PendingView → List (List Awaited) → List CauseView → List Finding → List LeftAt → List LineAt → Option HeldRanks → List ℕ
+pending_json reading groups recording verdict pending at_open causes findings left lines held =
+    compact_text (pending_data reading groups recording verdict pending at_open causes findings left lines held) ++ line_feed ∷ []
 
 unfoldable pub pending_report : Format → Reading → Groups → Lists → Verdict → List PendingView → List (List Awaited) → List CauseView → Judged → List ℕ
 pending_report Text reading groups recording verdict pending at_open causes it =
     pending_text reading groups recording verdict pending at_open causes it.findings.now it.left.now
 pending_report Json reading groups recording verdict pending at_open causes it =
-    pending_json reading groups recording verdict pending at_open causes it.findings.now it.left.now it.lines.now
+    pending_json reading groups recording verdict pending at_open causes it.findings.now it.left.now it.lines.now it.held

@@ -2,3 +2,4 @@
 pub mod ArrayTexts
 pub mod Printing
 pub mod Opened
+pub mod HeldTexts

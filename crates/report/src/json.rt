@@ -15,6 +15,7 @@ ghost use Rattle.report.specs.TextReport.{verdict_text};
 use crate::json::cause::causes_value;
 use crate::json::element::{push_key, push_value};
 use crate::json::finding::push_findings;
+use crate::json::held::{push_finding_calls, push_held};
 use crate::json::judged::{push_left, push_lines};
 use crate::json::pending::push_pending_ranks;
 use crate::json::rank::push_ranks;
@@ -31,6 +32,7 @@ use waitgraph::verdict::Verdict;
 mod cause;
 mod element;
 mod finding;
+mod held;
 mod judged;
 mod need;
 mod pending;
@@ -84,13 +86,15 @@ pub(crate) fn pending_json_text(
 ) -> Result<String, AllocError>
     requires { TellsOf run.now }
     ensures { IfOk result (λ text. string_bytes text
-        ≡ pending_json run.now.analyser.now.reading run.now.analyser.now.groups run.now.analyser.now.recording (verdict_by run.now.graph.now.held run.now.graph.now.left_open) (map pending_view run.now.pending.now) run.now.graph.now.at_open run.now.graph.now.causes judged.now.findings.now judged.now.left.now judged.now.lines.now) }
+        ≡ pending_json run.now.analyser.now.reading run.now.analyser.now.groups run.now.analyser.now.recording (verdict_by run.now.graph.now.held run.now.graph.now.left_open) (map pending_view run.now.pending.now) run.now.graph.now.at_open run.now.graph.now.causes judged.now.findings.now judged.now.left.now judged.now.lines.now judged.now.held) }
 {
     let mut text = String::new(alloc);
     push_key(alloc, &mut text, "{", "causes", ":")?;
     push_causes(alloc, &mut text, run.graph.causes())?;
+    push_finding_calls(alloc, &mut text, judged.held)?;
     push_key(alloc, &mut text, ",", "findings", ":[")?;
     push_findings(alloc, &mut text, judged.findings)?;
+    push_held(alloc, &mut text, judged.held)?;
     push_key(alloc, &mut text, "],", "left", ":[")?;
     push_left(alloc, &mut text, judged.left)?;
     push_key(alloc, &mut text, "],", "lines", ":[")?;

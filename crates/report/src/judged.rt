@@ -19,6 +19,20 @@ pub struct LineAt {
     pub line: u32,
 }
 
+/// A call: its rank, and its place in the rank's list.
+#[derive(Clone, Copy)]
+pub struct CallOf {
+    pub rank: u16,
+    pub place: u32,
+}
+
+/// What a JSON report says where it is asked which ranks are held: these, and the calls of each finding, in their order.
+#[derive(Clone, Copy)]
+pub struct HeldRanks<'a> {
+    pub ranks: &'a [u16],
+    pub finding_calls: &'a [Vec<CallOf>],
+}
+
 /// The most bytes of the words for why a list ended.
 pub const MOST_WORDS: usize = 64;
 
@@ -28,4 +42,5 @@ pub struct Judged<'a> {
     pub findings: &'a [Finding],
     pub left: &'a [LeftAt],
     pub lines: &'a [LineAt],
+    pub held: Option<HeldRanks<'a>>,
 }

@@ -38,10 +38,10 @@ fn write_pending_json<O: Output>(
 ) -> Result<(), ReportFault>
     requires { TellsOf run.now }
     ensures written { OnOk result (Appends (O.written out.old) (O.written out.new)
-        (pending_json run.now.analyser.now.reading run.now.analyser.now.groups run.now.analyser.now.recording (verdict_by run.now.graph.now.held run.now.graph.now.left_open) (map view_of run.now.pending.now) run.now.graph.now.at_open run.now.graph.now.causes judged.now.findings.now judged.now.left.now judged.now.lines.now)) }
+        (pending_json run.now.analyser.now.reading run.now.analyser.now.groups run.now.analyser.now.recording (verdict_by run.now.graph.now.held run.now.graph.now.left_open) (map view_of run.now.pending.now) run.now.graph.now.at_open run.now.graph.now.causes judged.now.findings.now judged.now.left.now judged.now.lines.now judged.now.held)) }
     ensures no_write_failed { OnOk result (O.failures out.new ≡ O.failures out.old) }
     ensures fault { IfErr result (LeavesReport O.written O.failures out.old out.new Format.Json
-        (pending_json run.now.analyser.now.reading run.now.analyser.now.groups run.now.analyser.now.recording (verdict_by run.now.graph.now.held run.now.graph.now.left_open) (map view_of run.now.pending.now) run.now.graph.now.at_open run.now.graph.now.causes judged.now.findings.now judged.now.left.now judged.now.lines.now)) }
+        (pending_json run.now.analyser.now.reading run.now.analyser.now.groups run.now.analyser.now.recording (verdict_by run.now.graph.now.held run.now.graph.now.left_open) (map view_of run.now.pending.now) run.now.graph.now.at_open run.now.graph.now.causes judged.now.findings.now judged.now.left.now judged.now.lines.now judged.now.held)) }
 {
     let Ok(text) = pending_json_text(alloc, run, judged) else {
         return Err(ReportFault::Memory);

@@ -46,7 +46,7 @@ marks_are_free scene marks within closed rank =
     same_bool (set_of marks rank) (free_in scene rank) (within rank)
     ((rounds_give_the_least_set (frees_in scene) (length scene.world.now.pairs.recording) (rising scene) (below scene)).1 (set_of marks) closed rank)
 
-filter_same : (f g : ℕ → Bool) → ((rank : ℕ) → f rank ≡ g rank) → (ranks : List ℕ) → filter f ranks ≡ filter g ranks
+pub filter_same : (f g : ℕ → Bool) → ((rank : ℕ) → f rank ≡ g rank) → (ranks : List ℕ) → filter f ranks ≡ filter g ranks
 filter_same f g same [] = refl
 filter_same f g same (rank ∷ ranks) = rw (same rank, filter_same f g same ranks) refl
 

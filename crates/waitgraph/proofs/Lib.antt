@@ -40,3 +40,5 @@ pub mod PendingWalkLemmas
 pub mod WithoutPendingLemmas
 pub mod PendingVerdictLemmas
 pub mod AskedLemmas
+pub mod AgreedLemmas
+pub mod HeldAmongLemmas

@@ -70,7 +70,7 @@ move_less reading groups recording known set larger within rank h =
     over_more (may_come recording (stands_of reading groups recording) larger) (may_come recording (stands_of reading groups recording) set)
     (come_less recording (stands_of reading groups recording) set larger within) (waited_of reading groups recording known rank) h
 
-fewer_others : (ranks : ℕ) (a b : Set) → IsWithin a b → IsWithin (others_of ranks b) (others_of ranks a)
+pub fewer_others : (ranks : ℕ) (a b : Set) → IsWithin a b → IsWithin (others_of ranks b) (others_of ranks a)
 fewer_others ranks a b within rank h =
     let both = and_parts (nat_lt rank ranks) (not (b rank)) h in
     let outside : a rank ≡ false = false_from_ne_true (a rank) (λ is. false≢true (sym (not-true (b rank) both.1) ∙ within rank is)) in

@@ -12,4 +12,6 @@ pub mod Verdicts
 pub mod PendingVerdicts
 pub mod Stays
 pub mod PendingStays
+pub mod Disagreements
+pub mod HeldAmong
 pub mod inner

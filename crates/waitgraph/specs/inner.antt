@@ -12,3 +12,5 @@ pub mod Verdicts
 pub mod Spans
 pub mod Stuck
 pub mod Waits
+pub mod Agreed
+pub mod Among

@@ -42,7 +42,7 @@ fn sweep(scene: &Scene<'_>, marks: &mut Vec<bool>) -> bool
 }
 
 /// No marks, for as many ranks as there are.
-fn no_ranks(alloc: Global, scene: &Scene<'_>) -> Result<Vec<bool>, AllocError>
+pub(crate) fn no_ranks(alloc: Global, scene: &Scene<'_>) -> Result<Vec<bool>, AllocError>
     ensures { IfOk result (λ marks. marks.items ≡ replicate (length scene.now.world.now.pairs.recording) false) }
 {
     no_marks(alloc, usize::from(ranks(scene)))

@@ -169,7 +169,12 @@ fn add_completed_needs(
 }
 
 /// Adds what the call at the place still needs: nothing where there is none, or it starts a request.
-fn add_needs(unmet: &mut Vec<Need>, world: &World, stands: &[u32], at: At) -> Result<(), AllocError>
+pub(crate) fn add_needs(
+    unmet: &mut Vec<Need>,
+    world: &World,
+    stands: &[u32],
+    at: At,
+) -> Result<(), AllocError>
     ensures { OnOk result (unmet.new.items ≡ unmet.old.items ++ filter (is_unmet stands.now) (needs_of world.now.reading world.now.pairs.groups world.now.pairs.recording at.0 at.1)) }
 {
     match world.pairs.at(at.0, at.1) {

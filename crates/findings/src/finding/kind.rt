@@ -11,7 +11,7 @@ use pairing::pairs::Pairs;
 use std::alloc::AllocError;
 
 /// Whether both calls have the same word of the trace format.
-pub(crate) fn is_same_word(first: &Call, call: &Call) -> bool
+pub fn is_same_word(first: &Call, call: &Call) -> bool
     ensures { result ≡ same_word first.now call.now }
 {
     Word::of(first) == Word::of(call)

@@ -12,7 +12,7 @@ use pairing::pairs::Pairs;
 use std::alloc::AllocError;
 
 /// The root that a call names, if it has one.
-fn root_of_call(call: &Call) -> Option<u16>
+pub fn root_of_call(call: &Call) -> Option<u16>
     ensures { result ≡ root_of_call call.now }
 {
     match *call {

@@ -64,7 +64,7 @@ fn stored_of_member(pairs: &Pairs, comm: u16, wave: u32, g: u16) -> Option<CallR
 }
 
 /// The call in a wave of the member with rank `g` in the communicator's group, as a record.
-pub(crate) fn call_of_member(pairs: &Pairs, comm: u16, wave: u32, g: u16) -> Option<Record>
+pub fn call_of_member(pairs: &Pairs, comm: u16, wave: u32, g: u16) -> Option<Record>
     ensures { result ≡ call_of_member pairs.now.groups pairs.now.recording comm wave g }
 {
     Some(stored_of_member(pairs, comm, wave, g)?.record())

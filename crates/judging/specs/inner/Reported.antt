@@ -24,6 +24,7 @@ use Rattle.closing.specs.Journals.{RankFault, run_of}
 use Rattle.closing.specs.Recording.{recording_of}
 use Rattle.closing.specs.Recordings.{RecordingView}
 use Rattle.closing.specs.Left.{left_of}
+use Rattle.judging.specs.HeldSaid.{IsHeldSaid}
 use Rattle.judging.specs.JournalTexts.{Known, AreKnown}
 use Rattle.judging.specs.Judging.{is_no_leak, left_said, left_words, reported_by}
 use Rattle.judging.specs.declared.judge.JudgeFault.{JudgeFault}
@@ -71,6 +72,7 @@ pub record IsReportedOf (it : RecordingView) (rows : List (List ℕ)) (analysed 
       ≡ reported_by manner.choice.calls (is_no_leak it.run it.choice) (findings_by analysed.groups analysed.recording pending.sinks)
   pub left : IsDone it → map left_said judged.left.now ≡ map left_words (left_of (recording_of it.run it.choice).lists)
   pub lines : IsLined rows manner analysed pending at_open judged.findings.now judged.lines.now
+  pub held : IsHeldSaid manner.reading analysed.groups analysed.recording pending manner.held judged.findings.now judged.held
 
 -- where the files are known to hold a run, it is this; and they are known to hold no other fault
 pub record IsRunOf (known : Known) (own : Run) : Type 0 where

@@ -9,10 +9,11 @@ use Rattle.report.specs.PendingReport.{has_lines, data_of_rank}
 use Rattle.waitgraph.specs.Verdicts.{verdict_by}
 use Rattle.waitgraph.specs.declared.verdict.Verdict.{Verdict}
 use Rattle.report.specs.inner.ArrayTexts.{elements_text, key_text}
+use Rattle.report.specs.inner.HeldTexts.{finding_calls_text, held_text}
 use Rattle.report.specs.JsonReport.{each, cause_data, finding_data}
 use Rattle.report.specs.Judged.{left_data, line_data}
 use Rattle.report.specs.TextReport.{verdict_text}
-use Rattle.report.proofs.JudgedLemmas.{pending_parts, thirteen}
+use Rattle.report.proofs.JudgedLemmas.{pending_parts, fifteen}
 use Rattle.report.proofs.json.pending_json_text.Goals as goal
 
 pub returns : goal.returns
@@ -28,6 +29,8 @@ returns c =
     let ranks = elements_text (data_of_rank reading groups recording pending c.args.run.now.graph.now.at_open) (filter (has_lines reading groups recording c.args.run.now.graph.now.at_open) (range_with_len 0 (length recording))) in
     let said = verdict_by c.args.run.now.graph.now.held c.args.run.now.graph.now.left_open in
     let verdict = compact_text (string (verdict_text said)) in
+    let calls = finding_calls_text c.args.judged.now.held in
+    let held = held_text c.args.judged.now.held in
     let key_1 = key_text (codes "{") (codes "causes") (codes ":") in
     let key_2 = key_text (codes ",") (codes "findings") (codes ":[") in
     let key_3 = key_text (codes "],") (codes "left") (codes ":[") in
@@ -40,16 +43,18 @@ returns c =
     c.in_ok-push_causes.ensures
     ∙ ap (λ (seen : List CauseView). string_bytes c.push_key.new.text ++ compact_text (each cause_data seen)) c.causes.ensures
     ∙ ap (λ (text : List ℕ). text ++ causes) a in
-    let d : string_bytes c.push_findings.new.text ≡ ((key_1 ++ causes) ++ key_2) ++ findings =
+    let d : string_bytes c.push_findings.new.text ≡ (((key_1 ++ causes) ++ calls) ++ key_2) ++ findings =
     c.in_ok-push_findings.ensures
-    ∙ ap (λ (text : List ℕ). text ++ findings) (c.in_ok-push_key-2.ensures ∙ ap (λ (text : List ℕ). text ++ key_2) b) in
-    let e : string_bytes c.push_left.new.text ≡ ((((key_1 ++ causes) ++ key_2) ++ findings) ++ key_3) ++ left =
+    ∙ ap (λ (text : List ℕ). text ++ findings) (c.in_ok-push_key-2.ensures ∙ ap (λ (text : List ℕ). text ++ key_2) (c.in_ok-push_finding_calls.ensures ∙ ap (λ (text : List ℕ). text ++ calls) b)) in
+    let d_held : string_bytes c.push_held.new.text ≡ ((((key_1 ++ causes) ++ calls) ++ key_2) ++ findings) ++ held =
+    c.in_ok-push_held.ensures ∙ ap (λ (text : List ℕ). text ++ held) d in
+    let e : string_bytes c.push_left.new.text ≡ ((((((key_1 ++ causes) ++ calls) ++ key_2) ++ findings) ++ held) ++ key_3) ++ left =
     c.in_ok-push_left.ensures
-    ∙ ap (λ (text : List ℕ). text ++ left) (c.in_ok-push_key-3.ensures ∙ ap (λ (text : List ℕ). text ++ key_3) d) in
-    let f : string_bytes c.push_lines.new.text ≡ ((((((key_1 ++ causes) ++ key_2) ++ findings) ++ key_3) ++ left) ++ key_4) ++ lines =
+    ∙ ap (λ (text : List ℕ). text ++ left) (c.in_ok-push_key-3.ensures ∙ ap (λ (text : List ℕ). text ++ key_3) d_held) in
+    let f : string_bytes c.push_lines.new.text ≡ ((((((((key_1 ++ causes) ++ calls) ++ key_2) ++ findings) ++ held) ++ key_3) ++ left) ++ key_4) ++ lines =
     c.in_ok-push_lines.ensures
     ∙ ap (λ (text : List ℕ). text ++ lines) (c.in_ok-push_key-4.ensures ∙ ap (λ (text : List ℕ). text ++ key_4) e) in
-    let h : string_bytes c.push_pending_ranks.new.text ≡ ((((((((key_1 ++ causes) ++ key_2) ++ findings) ++ key_3) ++ left) ++ key_4) ++ lines) ++ key_5) ++ ranks =
+    let h : string_bytes c.push_pending_ranks.new.text ≡ ((((((((((key_1 ++ causes) ++ calls) ++ key_2) ++ findings) ++ held) ++ key_3) ++ left) ++ key_4) ++ lines) ++ key_5) ++ ranks =
     c.in_ok-push_pending_ranks.ensures
     ∙ ap (λ (text : List ℕ). text ++ ranks) (c.in_ok-push_key-5.ensures ∙ ap (λ (text : List ℕ). text ++ key_5) f) in
     c.in_ok-push_str.ensures.bytes
@@ -57,5 +62,5 @@ returns c =
     (c.in_ok-push_verdict.ensures
     ∙ ap (λ (told : Verdict). string_bytes c.push_key-6.new.text ++ compact_text (string (verdict_text told))) c.verdict.ensures
     ∙ ap (λ (text : List ℕ). text ++ verdict) (c.in_ok-push_key-6.ensures ∙ ap (λ (text : List ℕ). text ++ key_6) h))
-    ∙ thirteen key_1 causes key_2 findings key_3 left key_4 lines key_5 ranks key_6 verdict (codes "}\n")
-    ∙ sym (pending_parts reading groups recording said pending c.args.run.now.graph.now.at_open c.args.run.now.graph.now.causes c.args.judged.now.findings.now c.args.judged.now.left.now c.args.judged.now.lines.now)
+    ∙ fifteen key_1 causes calls key_2 findings held key_3 left key_4 lines key_5 ranks key_6 verdict (codes "}\n")
+    ∙ sym (pending_parts reading groups recording said pending c.args.run.now.graph.now.at_open c.args.run.now.graph.now.causes c.args.judged.now.findings.now c.args.judged.now.left.now c.args.judged.now.lines.now c.args.judged.now.held)

@@ -1,0 +1,9 @@
+use Rattle.std.proofs.Common.{◌≡◌, ◌++◌, string_bytes, take}
+use Rattle.report.specs.inner.ArrayTexts.{elements_text}
+use Rattle.report.specs.Judged.{call_data}
+use Rattle.report.specs.JsonReport.{each}
+use Rattle.report.proofs.json.held.push_calls.Given as goal
+
+-- the elements so far
+abbrev pub invariant-loop-index : goal.invariant-loop-index
+invariant-loop-index l = string_bytes l.text ≡ string_bytes l.fn.text ++ elements_text (λ calls. each call_data calls.items) (take l.index l.all)
