@@ -4,7 +4,6 @@ import contextlib
 import io
 import json
 import os
-import random
 import unittest
 from unittest import mock
 
@@ -153,21 +152,18 @@ class Reference(Folders):
                 self.assertEqual(self.held(*ranks, asked=asked), wanted)
 
     def test_who_is_held_where_no_calls_differ(self):
-        random_journals = script("random-journals", TOP / "bench")
-        for seed in range(60):
-            draw = random.Random(seed)
-            texts = random_journals.Together(draw, draw.choice((2, 3, 4))).texts(12)
+        runs = script("held-journals", TOP / "bench")
+        seen = 0
+        for seed in range(80):
             self.again()
-            (self.folder / "journal").mkdir()
-            for rank, lines in enumerate(texts):
-                header = f"journal 2 {rank} {len(texts)} run i drawn at random"
-                lines = lines[: draw.randrange(1, len(lines) + 1)]
-                self.write(f"journal/journal{rank}", "\n".join([header, *lines, ""]))
-            with self.subTest(seed):
-                words = JOURNALS.words_of(["judge", "--json", "--held", str(self.folder / "journal")])
-                recording = JOURNALS.Recording(words)
-                if not recording.waits(None).disagreeing:
-                    self.assertEqual(recording.report_with_lines(words)[1]["held"], recording.waits(None).held)
+            words = ["judge", "--json", "--held", *runs.put_runs(self.folder, seed), str(self.folder / "J")]
+            with self.subTest(seed), contextlib.suppress(JOURNALS.Named):
+                recording = JOURNALS.Recording(words := JOURNALS.words_of(words))
+                waits = recording.waits(words.eager)
+                if not waits.disagreeing:
+                    self.assertEqual(recording.report_with_lines(words)[1]["held"], waits.held)
+                    seen += bool(waits.held)
+        self.assertGreater(seen, 5)
 
     def test_the_calls_of_findings(self):
         made = "comm_split 0 0 {} / =comm 2 1 0 / "
