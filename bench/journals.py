@@ -1,7 +1,8 @@
 #!/usr/bin/env python3
 """What a run's journals stand for, by definition: a second program to compare `judge` and `close` with.
 
-    journals.py judge [--as-closed] [--json [--held[=R,..]]] [--eager N] [--tests wait|pass] [--calls strict|went] FOLDER
+    journals.py judge [--as-closed] [--json [--held[=R,..]]] [--eager N] [--tests wait|pass]
+                      [--calls strict|went] FOLDER
     journals.py close [--tests wait|pass] [--calls strict|went] FOLDER OUT
 
 It is no part of the product and shares nothing with it. bench/journal_faults.py knows the form of journals, and

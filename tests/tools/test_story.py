@@ -1,6 +1,7 @@
 """What is said of a run: titles, statuses, causes and where the ranks were."""
 
 import json
+import subprocess
 import unittest
 from unittest import mock
 
@@ -41,7 +42,8 @@ class Statuses(Folders):
         for status, ranks in (
             (0, FREE), (1, BOTH), (2, ("wait 3 / finalize",)), (5, ("barrier 0 @1", "barrier 0 @1")),
             (7, ("bcast 0 0 @1 / finalize", "reduce 0 0 @2 / finalize")),
-            (7, ("bcast 0 0 @1 / finalize", "bcast 0 1 @2 / finalize")),
+            (7, ("bcast 0 0 @1 / finalize", "bcast 0 1 @2 / finalize")), (7, ("bcast 0 0 @1", "barrier 0 @2")),
+            (1, ("bcast 0 0 @1 / recv 0 1 3 @2", "barrier 0 @2 / recv 0 0 3 @3")),
         ):  # fmt: skip
             with self.subTest(ranks):
                 self.assertEqual(self.judged(*ranks).status, status)
@@ -105,7 +107,7 @@ class Statuses(Folders):
                 self.assertEqual((status, title[:45]), (6, "not judged: recorded calls may match 1 call t"))
 
     def test_what_is_asked(self):
-        """Nothing but `judge --json', by the journals alone, as few times as may be."""
+        """Nothing but `judge --json --held', by the journals alone, as few times as may be."""
         for ranks, state, asked in (
             (FREE, "i", [set()]), (BOTH, "i", [set(), {"--eager=2147483647"}]),
             (TESTED, "i", [set(), {"--tests=pass"}, {"--eager=2147483647"}]),
@@ -115,7 +117,7 @@ class Statuses(Folders):
                 self.again()
                 self.judged(*ranks, state=state)
                 commands = [call.args[1] for call in run.call_args_list]
-                self.assertEqual([set(words[3:-1]) for words in commands], asked)
+                self.assertEqual([set(words[3:-1]) for words in commands], [{"--held", *words} for words in asked])
                 self.assertTrue(all([words[1:3], words[-1]] == [["judge", "--json"], "."] for words in commands))
 
     def test_several_runs(self):
@@ -481,28 +483,119 @@ class Tested(Folders):
         self.assertIn("MPI_Recv at /a.py:9", "\n".join(dict(found.sections)["The causes"]))
 
 
-class Findings(Folders):
-    def test_each_kind(self):
-        first = "bcast 0 0 @1 / bsend 0 1 4 @2 / irecv 1 0 1 5 @3 / finalize"
-        self.assertEqual(
-            self.sections(first, "barrier 0 @4 / finalize")["Findings, which change no verdict"],
-            [
-                "different calls meet on MPI_COMM_WORLD: rank 0's MPI_Bcast at /a.py:1 and rank 1's MPI_Barrier at "
-                "/a.py:4",
-                "nobody receives what rank 0 sends in MPI_Bsend at /a.py:2 to rank 1 with tag 4",
-                "rank 0 never waits for what it starts in MPI_Irecv at /a.py:3",
-            ],
-        )
+class Differing(Folders):
+    """Ranks that disagree on a collective call: that is the title, whatever the run did."""
 
-    def test_roots_on_another_communicator(self):
+    def said(self, *ranks, **words):
+        self.again()
+        found = self.judged(*ranks, **words)
+        return found.title, *(lines for name, lines in found.sections[:2])
+
+    def test_another_order_in_a_run_that_completed(self):
+        title, calls, did = self.said("bcast 0 0 @1 / barrier 0 @2 / finalize",
+                                      *["barrier 0 @4 / bcast 0 0 @5 / finalize"] * 3)  # fmt: skip
+        error = "error: the ranks call collectives in a different order on MPI_COMM_WORLD"
+        self.assertEqual(title, error + "; this run completed, but only because the MPI library let it")
+        self.assertEqual(calls, [
+            "the 1st collective on MPI_COMM_WORLD:", "    rank 0: MPI_Bcast at /a.py:1",
+            "    ranks 1 to 3: MPI_Barrier at /a.py:4", "the 2nd collective on MPI_COMM_WORLD:",
+            "    rank 0: MPI_Barrier at /a.py:2", "    ranks 1 to 3: MPI_Bcast at /a.py:5",
+            "MPI requires that all ranks of a communicator call its collectives in the same order.",
+        ])  # fmt: skip
+        self.assertTrue(did[0].startswith("Every rank reached MPI_Finalize, but only because this MPI library let"))
+
+    def test_other_calls(self):
+        title = self.said("bcast 0 0 @1 / finalize", "barrier 0 @4 / finalize")[0]
+        self.assertTrue(title.startswith("error: the ranks call different collectives on MPI_COMM_WORLD; this run"), title)
+
+    def test_another_root_in_a_run_that_hung(self):
+        gather = ["gather 0 0 @11", "gather 0 0 @11 / barrier 0 @12", "gather 0 0 @11", "gather 0 3 @11"]
+        title, calls, did = self.said(*gather)
+        self.assertEqual(title, "error: the ranks disagree on the root of MPI_Gather on MPI_COMM_WORLD, and the run hung")
+        self.assertEqual(calls, [
+            "the 1st collective on MPI_COMM_WORLD:", "    ranks 0 to 2: MPI_Gather at /a.py:11 with root 0",
+            "    rank 3: MPI_Gather at /a.py:11 with root 3", "MPI requires the same root on all ranks.",
+        ])  # fmt: skip
+        self.assertEqual(did, ["The run hung: ranks 0 to 3 can never continue.",
+                               "ranks 0, 2 and 3: inside MPI_Gather at /a.py:11", "rank 1: inside MPI_Barrier at /a.py:12"])  # fmt: skip
+        self.assertNotIn("Where the ranks were", self.judged(*gather).text)
+
+    def test_nonblocking_calls(self):
+        title, calls, _ = self.said("ibarrier 1 0 @1 / wait 1 @2", "iallreduce 1 0 @3 / wait 1 @4")
+        self.assertEqual(title, "error: the ranks call collectives in a different order on MPI_COMM_WORLD, and the run hung")
+        self.assertEqual(calls[1:3], ["    rank 0: MPI_Ibarrier at /a.py:1", "    rank 1: MPI_Iallreduce at /a.py:3"])
+        title = self.said("barrier 0 @1", "ibarrier 1 0 @3 / wait 1 @4")[0]
+        self.assertEqual(title, "error: the ranks match MPI_Barrier with MPI_Ibarrier on MPI_COMM_WORLD, and the run hung")
+
+    def test_runs_that_failed_or_were_interrupted(self):
+        order = "error: the ranks call collectives in a different order on MPI_COMM_WORLD"
+        title, _, did = self.said("bcast 0 0 @1", "barrier 0 @2", program_status=14)
+        self.assertEqual((title, did[0]), (order + ", and the run failed", "The run ended with status 14."))
+        title, _, did = self.said("bcast 0 0 @1", "barrier 0 @2", state="o")
+        self.assertEqual(title, order + ", and the run was interrupted")
+        self.assertTrue(did[0].startswith("The run was interrupted."))
+
+    def test_another_communicator(self):
         made = "=comm 2 2 1"
         ranks = ["comm_split 0 undefined 0 @1 / =none / finalize", f"comm_split 0 0 1 @1 / {made} / bcast 2 1 @4 / finalize",
                  f"comm_split 0 0 0 @1 / {made} / bcast 2 0 @3 / finalize"]  # fmt: skip
+        title, calls, _ = self.said(*ranks)
+        self.assertIn("the root of MPI_Bcast on the communicator of /a.py:1; this run completed", title)
+        self.assertEqual(calls[:3], ["the 1st collective on the communicator of /a.py:1:",
+                                     "    rank 2: MPI_Bcast at /a.py:3 with root 0", "    rank 1: MPI_Bcast at /a.py:4 with root 1"])  # fmt: skip
+
+    def test_another_group(self):
+        made = "comm_split 0 0 0 @1 / =comm 2 {} / recv 2 null 0 @2 / finalize"
+        found = self.judged(made.format("0 1"), made.format("1"))
+        self.assertEqual((found.status, dict(found.sections)["The collective calls that differ"][0]),
+                         (7, "rank 1's MPI_Comm_split at /a.py:1 makes another group than the others say"))  # fmt: skip
+        self.assertIn("the ranks disagree on the group of the communicator that MPI_Comm_split makes", found.title)
+
+    def test_no_call_waits_for_one_that_it_cannot_match(self):
+        """Rank 0 is in a barrier, to which rank 1 calls an allreduce instead, if it ever comes so far."""
+        ranks = "barrier 0 @1 / finalize", "ssend 0 0 5 @2 / allreduce 0 @3 / finalize"
+        for wait, other in ((ranks[0], ranks[1]), ("ibarrier 1 0 @1 / wait 1 @4 / finalize", ranks[1]),
+                            ("bcast 0 0 @1 / finalize", "ssend 0 0 5 @2 / bcast 0 1 @3 / finalize")):  # fmt: skip
+            self.again()
+            found = self.judged(wait, other)
+            self.assertEqual((found.status, found.title[:6]), (1, "error:"))
+            self.assertNotIn("until rank 1 comes to MPI_", found.text)
+            self.assertIn("where rank 1 calls MPI_", found.text)
+
+    def test_what_is_said_with_an_older_checker(self):
+        """It knows no --held: then it isn't known which calls they are, nor whether the run hung."""
+        self.run_of("bcast 0 0 @1", "barrier 0 @2")
+        found = Story(self.folder / "journal", Older())
+        self.assertEqual((found.status, found.judge.knows_held), (7, False))
+        self.assertEqual(found.title, "error: the ranks call collectives in a different order on MPI_COMM_WORLD, "
+                                      "and the run was interrupted")  # fmt: skip
+        self.assertEqual(found.sections[0][1][:3],
+                         ["a collective on MPI_COMM_WORLD:", "    some ranks: MPI_Bcast", "    others: MPI_Barrier"])  # fmt: skip
+        self.assertEqual(Story(self.folder / "journal", Stored()).judge.knows_held, True)
+
+    def test_many_alike(self):
+        calls = self.said("bcast 0 0 @1 / " * 9 + "finalize", "reduce 0 0 @2 / " * 9 + "finalize")[1]
+        self.assertEqual(calls[0], "the 1st collective on MPI_COMM_WORLD (8 more alike):")
+        self.assertEqual(len(calls), 4)
+
+
+class Older(Stored):
+    """A checker that doesn't know --held."""
+
+    def run(self, command, folder):
+        if any(word.startswith("--held") for word in command):
+            return subprocess.CompletedProcess(command, 3, "", "error: unexpected argument '--held' found")
+        return super().run(command, folder)
+
+
+class Findings(Folders):
+    def test_each_kind(self):
+        first = "barrier 0 @1 / bsend 0 1 4 @2 / irecv 1 0 1 5 @3 / finalize"
         self.assertEqual(
-            self.sections(*ranks)["Findings, which change no verdict"],
+            self.sections(first, "barrier 0 @4 / finalize")["Findings, which change no verdict"],
             [
-                "different roots meet on the communicator of /a.py:1: rank 2's MPI_Bcast at /a.py:3 with root 0 "
-                "and rank 1's MPI_Bcast at /a.py:4 with root 1"
+                "nobody receives what rank 0 sends in MPI_Bsend at /a.py:2 to rank 1 with tag 4",
+                "rank 0 never waits for what it starts in MPI_Irecv at /a.py:3",
             ],
         )
 

@@ -1,16 +1,20 @@
 """Which ranks wait for which, and what else is wrong with a run, in words."""
 
-from .journals import MAKERS
+from __future__ import annotations
+
+from typing import TYPE_CHECKING
+
 from .script import counted, grouped, listed, plural, ranks_named, shortened
+
+if TYPE_CHECKING:
+    from .journals import Call
+    from .runs import Stuck
 
 MOST_NAMES, MOST_LINES = 8, 60  # ranks of one cycle, and lines of the causes
 IN_TURN = ", each for the next and the last for the first"
-# The words of traces that the calls which make communicators may have.
-MADE = dict.fromkeys(MAKERS, ("dup", "split", "barrier")) | {"comm_idup": ("ibarrier",)}
 FINDINGS = {
     "unreceived": "nobody receives what rank {0.rank} sends in {1}",
     "request": "rank {0.rank} never waits for what it starts in {2}",
-    "group": "rank {0.rank}'s {2} makes another group than the others say",
 }
 
 
@@ -24,7 +28,15 @@ def alike_key(stuck):
     return stuck.call.name, stuck.call.where, stuck.call.message(), needs, tuple(stuck.senders)
 
 
+def is_another(stuck: Stuck, call: Call) -> bool:
+    """Whether it is a collective call in the place of the one that a rank waits in, which it can't match."""
+    own = [one for one in stuck.calls if one.is_collective]
+    return call.is_collective and bool(own) and not any(map(call.matches, own))
+
+
 def need_words(stuck, rank, call):
+    if call is not None and is_another(stuck, call):
+        return f"where rank {rank} calls {call.placed()} instead"
     if call is not None:
         return f"until rank {rank} comes to {call.placed()}"
     answers = {"receive" if half.is_send else "send" for half in stuck.lacking(rank)}
@@ -130,36 +142,15 @@ def cause_sections(view, cause="The cause", is_alone=True):
         yield "Who else waits" if named else "Who waits", shortened(lines, MOST_LINES)
 
 
-def pair_words(view, key, member):
-    """A finding about two calls that meet: different calls, or one with different roots."""
-    def candidates(rank, wanted):
-        for call in view.calls[rank].values():
-            words = [call.root] if kind == "root" else MADE.get(call.word, (call.word,))
-            if wanted in words and call.comm is not None and (call.comm == 0) == is_world:
-                yield call, view.run.made(rank, call.comm)[0]
-
-    kind, is_world, first, other = key
-    what, end = ("different calls", "") if kind == "kind" else ("different roots", " with root {}")
-    for one, members in (one for rank in view.run.ranks for one in candidates(rank, first)):
-        is_whole = members[:1] == (one.rank,) and member < len(members)
-        met = candidates(members[member], other) if is_whole else ()
-        for two in (two for two, others in met if others == members):
-            both = [f"rank {call.rank}'s {call.placed()}{end.format(call.root)}" for call in (one, two)]
-            return f"{what} meet on {view.run.label(one.rank, one.comm)}: {both[0]} and {both[1]}"
-    return f"{what} meet: {first} and {other}"
-
-
 def finding_lines(view):
-    """The findings of a report: the first of each kind, and how many are alike."""
+    """The findings of a report, but for disagreements: the first of each kind, and how many are alike."""
     counts, words = {}, {}
-    for text in view.report["findings"]:
-        kind, *fields = text.split(" ")
-        call = view.call(int(fields[0]), int(fields[1])) if kind in FINDINGS else None
-        key = (kind, call.word, call.where) if call else (kind, fields[0] == "0", *fields[3:])
+    for kind, *fields in (text.split(" ") for text in view.report["findings"]):
+        if kind not in FINDINGS:
+            continue
+        call = view.call(int(fields[0]), int(fields[1]))
+        key = kind, call.word, call.where
         counts[key] = counts.get(key, 0) + 1
-        if key not in words and call:
-            words[key] = FINDINGS[kind].format(call, call.text(), call.placed())
-        elif key not in words:
-            words[key] = pair_words(view, key, int(fields[2]))
+        words.setdefault(key, FINDINGS[kind].format(call, call.text(), call.placed()))
     alike = {key: f" ({count - 1:,} more alike)" if count > 1 else "" for key, count in counts.items()}
     return [words[key] + alike[key] for key in words]

@@ -8,6 +8,7 @@ import os
 import re
 import resource
 from collections import namedtuple
+from collections.abc import Iterator
 from contextlib import suppress
 from pathlib import Path
 
@@ -22,12 +23,16 @@ ROOTED = {"bcast", "gather", "scatter", "reduce"}
 COLLECTIVES = ROOTED | {"barrier", "allgather", "alltoall", "allreduce", "scan", "exscan"}
 STARTED_COLLECTIVES = {"i" + word for word in COLLECTIVES}
 MAKERS = {"comm_dup", "comm_split", "comm_make"}
+ALL_COLLECTIVES = COLLECTIVES | STARTED_COLLECTIVES | MAKERS | {"comm_idup"}
 STARTED_SENDS = {"isend", "issend", "ibsend", "irsend"}
 SENDS = STARTED_SENDS | {"send", "ssend", "bsend", "rsend", "sendrecv", "isendrecv"}
 RECEIVES = {"recv", "irecv", "sendrecv", "isendrecv", "probe", "iprobe", "mprobe", "improbe"}
 STANDARD = {"send", "isend", "rsend", "irsend", "sendrecv", "isendrecv"}
 WAITS = {"wait", "test", "waitany", "waitsome", "mrecv"}
 NUMBER = re.compile("[0-9]{1,10}")
+# The collective calls on one of a rank's communicators, whose number stands where `%d' is.
+WHOLE = "|".join(sorted(COLLECTIVES | MAKERS)).encode()
+STARTED = "|".join(sorted(STARTED_COLLECTIVES | {"comm_idup"})).encode()
 # How many requests or messages come before the communicator of a call that is on one.
 BEFORE = dict.fromkeys(COLLECTIVES | MAKERS | SENDS | RECEIVES, 0) | {"isendrecv": 2}
 BEFORE |= dict.fromkeys(STARTED_COLLECTIVES | STARTED_SENDS, 1)
@@ -124,6 +129,15 @@ class Journal:
     def sizes(self):
         """The bytes of its standard sends."""
         return {int(found[1]) for found in SIZE.finditer(self.data, 0, self.end)}
+
+    def collectives_on(self, comm: int) -> Iterator[int]:
+        """The lines of its collective calls on one of its communicators, in their order."""
+        text, line, before = self.data[: self.end], 1, 0
+        form = rb"\n(?:(?:%b)|(?:%b) \d+) %d(?=[ \n])" % (WHOLE, STARTED, comm)
+        for found in re.finditer(form, text or b""):
+            line += text.count(b"\n", before, found.start() + 1)
+            before = found.start() + 1
+            yield line
 
     def tail(self):
         """The last calls, as far as they are read at once."""
@@ -229,6 +243,16 @@ class Call:
     @property
     def where(self):
         return self.run.places.where(self.rank, self.site) if self.site else ""
+
+    @property
+    def is_collective(self) -> bool:
+        return self.word in ALL_COLLECTIVES
+
+    def matches(self, other: "Call") -> bool:
+        """Whether two collective calls of one wave are the same, as MPI wants it."""
+        if "comm_make" in (self.word, other.word):  # several functions have this word
+            return {self.word, other.word} <= MAKERS
+        return (self.word, self.root) == (other.word, other.root)
 
     @property
     def halves(self):

@@ -6,10 +6,12 @@ import subprocess
 import sys
 import tempfile
 from collections import Counter, namedtuple
+from collections.abc import Iterable
 from contextlib import suppress
 from functools import lru_cache
 from pathlib import Path
 
+from .differing import disagreements
 from .journals import COUNTED, RECEIVES, STANDARD, Call, journals_in, top_of, written
 from .places import Places, printable
 from .script import ENDING, HERE, Status, Stopped, worst
@@ -43,6 +45,7 @@ class Run:
         self.uncut = [(call, self.left_out["N"].pop(call)) for call in list(self.left_out["N"])
                       if call.startswith(("moments without a cut", "no windows"))]  # fmt: skip
         self.made, self._calls = lru_cache(None)(self._made), {}
+        self.collectives = lru_cache(None)(lambda rank, comm: list(self.journals[rank].collectives_on(comm)))
 
     def count(self, meaning):
         """How many calls weren't recorded; with P they may match recorded ones."""
@@ -111,6 +114,11 @@ class Stuck:
         return [half for half in halves if (not half.is_send, half.tag) not in met]
 
 
+def held_in(cause: dict) -> list[int]:
+    """The held ranks that a cause names."""
+    return cause.get("cycle") or cause.get("missing", [])[:1] or [cause["starved"]]
+
+
 class View:
     """A run as one answer reports it. `strict' is the view of strict waiting, if there is another one."""
     def __init__(self, run, report, strict=None, is_went=False):
@@ -128,7 +136,8 @@ class View:
         found = {rank: run.calls(rank, whys) if whys else {} for rank, whys in self.whys.items()}
         self.left_calls = {rank: [found[rank][number] for number in whys] for rank, whys in self.whys.items()}
         self.stuck = {entry["rank"]: Stuck(self, entry) for entry in report["ranks"]}
-        self.held = self.held_among(set(self.stuck))
+        named = [rank for cause in report["causes"] for rank in held_in(cause)]
+        self.held = set(report.get("held", named))  # an older checker names only those of the causes
         self.unreceived = {}  # the sends that nobody receives, with what they send, by both ranks
         for _, rank, at in (text.split(" ") for text in report["findings"] if text.startswith("unreceived ")):
             call = self.call(int(rank), int(at))
@@ -146,29 +155,6 @@ class View:
         """Whether a call that is left out ends what is known of its rank."""
         is_sink = call.word in ("irecv", "isendrecv") or self.is_went and call.word in RECEIVES
         return self.whys[call.rank][call.number] not in ("never told", "not judged") or not is_sink
-
-    def held_among(self, ranks):
-        """The stuck ranks that no further calls of others let move on, if only these may be held."""
-        held, loose = ranks & set(self.stuck), {None}
-        while loose:
-            stay = {rank for rank in held if self.stays(self.stuck[rank], held)}
-            held, loose = stay, held - stay
-        return held
-
-    def stays(self, stuck, held):
-        """Whether a rank waits for ever if these do."""
-        if stuck.is_pending:
-            return stuck.waited <= held or any(not call and self.is_closed(who) for who, call in stuck.needs)
-        stay = [(who, call) for who, call in stuck.needs if who in held or not call and self.is_closed(who)]
-        return any(call or not self.may_be_met(stuck, who) for who, call in stay)
-
-    def may_be_met(self, stuck, rank):
-        """Whether a rank has a receive that may have met what is sent to it, by what is known."""
-        sinks = [call for call in self.left_calls[rank] if not self.ends_list(call)]
-        wanted = [half for call in sinks for half in call.halves]
-        sent = [(half.tag, half.comm) for half in stuck.lacking(rank) if half.is_send]
-        return any(one.tag in ("any", tag) and one.comm == comm and one.rank in (None, stuck.rank)
-                   for one in wanted if not one.is_send for tag, comm in sent)  # fmt: skip
 
     def offers(self, rank, other):
         """What a rank sends to another, or receives from it, that meets no call: each call with its half."""
@@ -190,7 +176,7 @@ class Judge:
         self.path = os.path.abspath(path) if "/" in path else path
         self.words, self.is_nice = ["nice", "-n", str(nice)] if nice else [], nice > 0
         self.words += [self.path, "--unproved"] if unproved else [self.path]
-        self.errors = subprocess.PIPE
+        self.errors, self.knows_held = subprocess.PIPE, True
 
     def run(self, command, folder):
         more = {"stdin": subprocess.DEVNULL, "stdout": subprocess.PIPE, "stderr": self.errors}
@@ -211,7 +197,8 @@ class Judge:
 
     def ask(self, folder, **options):
         """Judges the journals of a folder. It is named from there, since the program takes UTF-8 alone."""
-        words = [f"--{name}={value}" for name, value in options.items() if value is not None]
+        words = [f"--{name}" if value is True else f"--{name}={value}"
+                 for name, value in options.items() if value is not None]  # fmt: skip
         try:
             done = None if ENDING else self.run([*self.words, "judge", "--json", *words, "."], folder)
         except OSError as fault:
@@ -226,6 +213,18 @@ class Judge:
         status = done.returncode if done.returncode in (Status.REFUSED, Status.WORDS) else 4
         said = (done.stdout + (done.stderr or "")).strip()
         return Answer(status, None, said or str(subprocess.CalledProcessError(done.returncode, self.path)))
+
+
+    def ask_held(self, folder: Path, ranks: Iterable[int] | None = None, **options) -> Answer:
+        """The same, with who is held of all or of these ranks. An older checker is asked without that."""
+        if self.knows_held:
+            held = True if ranks is None else ",".join(map(str, sorted(ranks)))
+            answer = self.ask(folder, held=held, **options)
+            if answer.status != Status.WORDS:
+                return answer
+        answer = self.ask(folder, **options)
+        self.knows_held = self.knows_held and answer.report is None
+        return answer
 
 
 class Judgement:
@@ -260,11 +259,12 @@ class Judgement:
         self.may_hang = self.is_hang and self.verdicts().get("went") == "unfinished"
         self.shown = self.went if self.went and not self.may_hang else self.rules
         self.verdict = self.shown.report["verdict"] if self.shown else None
-        self.status = self._status(program_status)
+        self.differences = disagreements(self.strict or self.shown) if self.shown else []
+        self.program_status, self.status = program_status, self._status(program_status)
 
     def _ask(self, name, **options):
         if not (self.is_short and self.answers):
-            self.answers[name] = self.judge.ask(self.run.folder, **{"eager": self.eager, **options})
+            self.answers[name] = self.judge.ask_held(self.run.folder, **{"eager": self.eager, **options})
             if self.answers[name].report is not None:
                 self.views[name] = View(self.run, self.answers[name].report, is_went=name == "went")
 
@@ -280,7 +280,6 @@ class Judgement:
         found = [Status[self.verdict.upper()] if self.shown else self.main.status]
         if self.shown:
             found = [Status.NOT_JUDGED] if self.run.count("P") or self.misses_windows() else found
-            kinds = {text.split(" ")[0] for text in (self.strict or self.shown).report["findings"]}
-            found += [Status.DIFFERENT] if kinds & {"kind", "root"} else []
+            found += [Status.DIFFERENT] if self.differences else []
             found += [Status.IMPOSSIBLE] if set(self.unanswered) - {"buffered"} else []
         return worst(found + ([Status.FAILED] if program_status else []))

@@ -1,10 +1,12 @@
 """What is said of a run: a title and sections of lines."""
 
 import re
+from collections.abc import Iterator
 
 from .causes import cause_lines, cause_sections, finding_lines
+from .differing import difference_lines, error_of
 from .journals import COLLECTIVES, STANDARD, STARTED_COLLECTIVES
-from .runs import Judgement, Run
+from .runs import Judgement, Run, held_in
 from .script import counted, grouped, plural, ranks_named, shortened
 
 MEANINGS = {
@@ -26,6 +28,20 @@ UNFORCED = ("{} on waits for nonblocking collectives ({}). A strict run can't fo
             "members: MPI lets those that don't need all data complete sooner.")  # fmt: skip
 THREADS = ("With MPI_THREAD_MULTIPLE another thread of a rank may call MPI while one waits: nothing is known "
            "of a call that wasn't made when the recording ended.")  # fmt: skip
+# What a run did in which the ranks disagree on a collective call: in the title, and in full.
+ENDS = {
+    "completed": "; this run completed, but only because the MPI library let it",
+    "went on": "; this run went on, but only because the MPI library let it",
+    "failed": ", and the run failed", "hung": ", and the run hung",
+    "interrupted": ", and the run was interrupted",
+}  # fmt: skip
+LET = ("only because this MPI library let these calls pass. MPI does not allow them: with another library, "
+       "other messages or more ranks the program may hang or compute with the wrong data.")  # fmt: skip
+DID = {
+    "completed": f"Every rank reached MPI_Finalize, but {LET}", "went on": f"The run went on, but {LET}",
+    "failed": "The run ended with status {1}.", "hung": "The run hung: {0} can never continue.",
+    "interrupted": "The run was interrupted. These calls may hang, but no rank was seen waiting for them.",
+}  # fmt: skip
 UNRECORDED = "Processes that weren't recorded, and of which no verdict speaks"
 UNCUT = "Why the recording wasn't cut where it could have been"
 NO_MEETING = "no rank called a barrier, or an allreduce, allgather or alltoall of data, of all ranks"
@@ -54,6 +70,7 @@ class Story(Judgement):
         # The places of all calls that are named are looked up at once.
         stuck = [one for view in self.views.values() for one in view.stuck.values()]
         calls = [call for one in stuck for call in [*one.calls, *(call for _, call in one.needs)] if call]
+        calls += [call for one in self.differences for call in one.calls.values()]
         cut = [one for one in self.run.journals if one.last and not one.has_ended]
         sites = {(one.rank, one.polls[1] if one.polls else one.last.site) for one in cut}
         self.run.places.look_up(sites | {(call.rank, call.site) for call in calls})
@@ -65,13 +82,35 @@ class Story(Judgement):
 
     def _title(self):
         """The verdict in words; in doubt, that there is none."""
-        words, doubts = getattr(self, f"_{self.verdict}")(), self.run.count("P")
+        words, doubts = self._words(), self.run.count("P")
         calls = plural(doubts, "call that wasn't", "calls that weren't")
-        doubted = f"not judged: recorded calls may match {calls} recorded (without these: {words})"
+        without = f"(without these: {words.removeprefix('verdict ')})"
+        doubted = f"not judged: recorded calls may match {calls} recorded {without}"
         if self.misses_windows() and not doubts:
             missing = plural(self.windows.unjudged(), "window wasn't", "windows weren't")
-            doubted = f"not judged: {missing} (without these: {words})"
-        return doubted if doubts or self.misses_windows() else f"verdict {words}"
+            doubted = f"not judged: {missing} {without}"
+        return doubted if doubts or self.misses_windows() else words
+
+    def _words(self) -> str:
+        """An error of the program in its collective calls, or else the verdict."""
+        if self.differences:
+            return f"error: {error_of(self.differences)}{ENDS[self._end()]}"
+        return f"verdict {getattr(self, f'_{self.verdict}')()}"
+
+    def _end(self) -> str:
+        """How a run ended in which the ranks disagree on a collective call."""
+        if self.run.has_ended:
+            went_on = all(one.last and one.last.word == "cut" for one in self.run.journals)
+            return "went on" if went_on else "completed"
+        if self.program_status:
+            return "failed"
+        return "hung" if self.went and self.went.held else "interrupted"
+
+    def _what_it_did(self) -> Iterator[str]:
+        """What a run did in which the ranks disagree on a collective call."""
+        end, held = self._end(), self.went.held if self.went else ()
+        yield DID[end].format(ranks_named(held), self.program_status)
+        yield from [] if self.run.has_ended else self._where()
 
     def _refused(self, said):
         """With the line of code of the line that is refused, which may have any form."""
@@ -100,11 +139,15 @@ class Story(Judgement):
 
     def _sections(self):
         found, counts = {}, self.run.unrecorded.items()
+        if self.differences:
+            yield "The collective calls that differ", difference_lines(self.differences)
+            yield "What the run did", shortened(self._what_it_did(), 24)
         if self.shown:
             yield from self._causes()
+            where = [] if self.differences else list(self._where())  # it has been said
             found = {"Findings, which change no verdict": self.found,
                      "Communicators": self._communicators(), "What this assumes": list(self._assumptions()),
-                     "Where the ranks were that didn't come to MPI_Finalize": list(self._where()),
+                     "Where the ranks were that didn't come to MPI_Finalize": where,
                      "Calls at which the judgement of a rank ends": self._stops(True),
                      "Receives of which it isn't known what they took": self._stops(False),
                      "Unanswered questions": [": ".join(one) for one in self.unanswered.items()]}  # fmt: skip
@@ -128,9 +171,12 @@ class Story(Judgement):
 
     def _causes(self):
         went, rules = self.went, self.rules
+        if self.differences and self.verdict == "unfinished":  # where the ranks were has been said
+            return
         yield from cause_sections(went, "It hung here") if went else cause_sections(rules)
         if went and self.is_hang and cause_lines(rules) != cause_lines(went):
-            yield from cause_sections(rules, f"It may hang here{' too' if went.held else ''}", False)
+            title = "It may hang here too" if went.report["verdict"] == "hang" else "It may hang here"
+            yield from cause_sections(rules, title, False)
         if self.by_tests:
             yield from cause_sections(self.strict, UNTIL_TESTS, False)
 
@@ -144,6 +190,8 @@ class Story(Judgement):
         return [f"{label}: {words}" for label, words in lines.items()]
 
     def _assumptions(self):
+        if self.differences and self.verdict == "unfinished":
+            return
         if self.run.is_strict is None:
             strict = [one.rank for one in self.run.journals if one.header and one.header.is_strict]
             yield f"Only {ranks_named(strict)} ran strictly, so this is reported as a run that wasn't strict."
@@ -164,7 +212,7 @@ class Story(Judgement):
 
     def _unforced(self, view):
         """Causes of a strict run that need a nonblocking collective to wait for all its members."""
-        causes = [cause.get("cycle") or cause["missing"][:1] for cause in view.report["causes"]]
+        causes = [held_in(cause) for cause in view.report["causes"]]
         unforced = STARTED_COLLECTIVES - {"ibarrier"} | {"comm_idup"}
         named = {rank for cause in causes for rank in cause}
         ranks = {rank for rank in named if any(start.word in unforced for start in view.stuck[rank].starts)}
