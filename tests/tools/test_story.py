@@ -177,6 +177,40 @@ class Causes(Folders):
         )
         self.assertEqual(said, [wanted])
 
+    WRONG_TAG = ("recv 0 1 8 @9", *["send 0 0 7 4 @23 / bcast 0 0 @24"] * 3)
+
+    def test_a_wrong_tag_comes_before_the_cycle_that_it_leads_to(self):
+        sections = self.sections(*self.WRONG_TAG)
+        self.assertEqual(sections["It hung here"], [
+            "rank 0 waits in MPI_Recv at /a.py:9 from rank 1 with tag 8, for a send that rank 1 hasn't made so far",
+            "    rank 1 sends to it in MPI_Send at /a.py:23, but with tag 7 and not 8",
+        ])  # fmt: skip
+        self.assertEqual([line[:12] for line in sections["Who else waits"]], ["ranks 1 to 3"])
+
+    def test_nothing_is_said_twice(self):
+        """What may hang too isn't what hung, nor what leads to that; and those who wait are said once to be there."""
+        found = self.judged(*self.WRONG_TAG)
+        self.assertFalse([name for name, _ in found.sections if name.startswith("It may hang here")])
+        self.assertNotIn(WHERE, dict(found.sections))
+        self.assertEqual(found.text.count("a.py:9"), 1)
+
+    def test_a_missing_call_comes_before_a_cycle(self):
+        """Rank 0 needs a call that rank 3 never makes, and is in a cycle too."""
+        ranks = ("irecv 1 0 3 5 @1 / issend 2 0 1 6 @2 / wait 1 2 @3 / recv 0 1 7 / finalize",
+                 "ssend 0 0 7 @4 / recv 0 0 6 @5 / finalize", "ssend 0 0 7 @6 / finalize", "finalize")  # fmt: skip
+        said = self.cause(*ranks)
+        self.assertTrue(said[0].startswith("rank 0 waits in MPI_Waitall at /a.py:3, until rank 1 comes"), said)
+        self.assertEqual(said[1], "    and for a send that rank 3 never makes")
+        self.assertIn("ranks 0 and 1 wait for each other too:", said)
+        self.assertEqual(sum("MPI_Waitall" in line for line in said), 1)
+
+    def test_the_cause_that_blocks_most_ranks_comes_first(self):
+        pair = [f"recv 0 {1 - rank} 5 @1 / finalize" for rank in (0, 1)]
+        others = [f"recv 0 {2 if rank > 2 else 5} 6 @2 / finalize" for rank in range(2, 6)]
+        said = self.cause(*pair, *others)
+        self.assertEqual([line.partition(" waits in ")[0].partition(" wait in ")[0] for line in said],
+                         ["rank 2", "ranks 3 to 5", "rank 0", "rank 1"])  # fmt: skip
+
     def test_no_line_of_code(self):
         said = self.cause("barrier 0 / recv 0 1 0 / finalize", "barrier 0 / finalize")
         self.assertTrue(said[0].startswith("rank 0 waits in MPI_Recv (line 3 of journal0) from rank 1"), said)
@@ -184,7 +218,7 @@ class Causes(Folders):
     def test_that_no_buffer_would_cure(self):
         assumes = "What this assumes"
         said = self.cause("recv 0 1 0 @7 / finalize", "recv 0 0 0 @7 / finalize", title=assumes)
-        self.assertEqual(said, ["No buffer would cure this: no standard send is among these calls."])
+        self.assertEqual(said, ["No buffer would cure this: none of these ranks waits in a standard send."])
         said = self.cause("send 0 1 0 4 @7 / recv 0 1 1 @8 / finalize", "send 0 0 0 4 @7 / recv 0 0 1 @8 / finalize",
                           title=assumes)  # fmt: skip
         self.assertIn("No buffer would cure this: it hangs too if all messages are buffered.", said[0])
@@ -324,7 +358,8 @@ class CutOff(Folders):
         self.run_of(*ranks, **words)
         for rank, text in left.items():
             self.write(f"journal/left{rank}", text)
-        return self.sections(*ranks, **words)[WHERE]
+        sections = self.sections(*ranks, **words)
+        return sections.get(WHERE) or sections[WHERE.replace("the ranks", "the other ranks")]
 
     def test_where_ranks_were(self):
         self.assertEqual(
@@ -336,7 +371,6 @@ class CutOff(Folders):
                 "rank 4: made more than 1,000,000 calls; those after them aren't judged",
                 "rank 5: MPI_Send at /a.py:1, and recorded no further: the disk is full",
                 "rank 6: never came through MPI_Init",
-                "ranks 7 and 8: inside MPI_Barrier at /a.py:1",
                 "rank 9: back from MPI_Barrier at /a.py:1, and computing or in a call that isn't recorded",
             ],
         )
@@ -351,7 +385,6 @@ class CutOff(Folders):
             [
                 "rank 4: made more than 1,000,000 calls; those after them aren't judged; now in MPI_File_read_all, "
                 "which isn't recorded",
-                "ranks 7 and 8: inside MPI_Barrier at /a.py:1",
                 "rank 9: back from MPI_Barrier at /a.py:1, and in MPI_Win_wait, which isn't recorded",
             ],
         )
@@ -617,6 +650,11 @@ class Strict(Folders):
     def test_strict_runs(self):
         self.assertTrue(self.assumed(*BOTH)[0].startswith("This run was strict: "))
         self.assertFalse(any("strict" in line for line in self.assumed(*BOTH, strict=())))
+
+    def test_a_receive_that_nobody_answers(self):
+        """A cause that names one rank, and no other."""
+        said = self.assumed("irecv 1 0 any 3 @4 / wait 1 @5", "finalize")
+        self.assertTrue(said[0].startswith("This run was strict: "), said)
 
     def test_only_some_ranks(self):
         said = self.sections("finalize", "finalize", after={0: " strict"})["What this assumes"]

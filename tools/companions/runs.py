@@ -8,7 +8,7 @@ import tempfile
 from collections import Counter, namedtuple
 from collections.abc import Iterable
 from contextlib import suppress
-from functools import lru_cache
+from functools import cached_property, lru_cache
 from pathlib import Path
 
 from .differing import disagreements
@@ -143,6 +143,24 @@ class View:
             call = self.call(int(rank), int(at))
             for half in (half for half in call.halves if half.is_send):
                 self.unreceived.setdefault((call.rank, half.rank), []).append((call, half))
+
+    def waiting(self, ranks: set[int]) -> set[int]:
+        """These ranks, and all that wait for them, or for others that do."""
+        found, left = set(ranks), list(ranks)
+        while left:
+            new = self.waiting_for.get(left.pop(), set()) - found
+            found |= new
+            left += new
+        return found
+
+    @cached_property
+    def waiting_for(self) -> dict[int, set[int]]:
+        """The stuck ranks that wait for each rank."""
+        waiting = {}
+        for one in self.stuck.values():
+            for rank in one.waited:
+                waiting.setdefault(rank, set()).add(one.rank)
+        return waiting
 
     def call(self, rank, at):
         return self.calls[rank].get(at) or Call(self.run, rank, "init")

@@ -3,7 +3,7 @@
 import re
 from collections.abc import Iterator
 
-from .causes import cause_lines, cause_sections, finding_lines
+from .causes import all_causes, cause_sections, finding_lines, other_causes
 from .differing import difference_lines, error_of
 from .journals import COLLECTIVES, STANDARD, STARTED_COLLECTIVES
 from .runs import Judgement, Run, held_in
@@ -145,9 +145,10 @@ class Story(Judgement):
         if self.shown:
             yield from self._causes()
             where = [] if self.differences else list(self._where())  # it has been said
+            others = "other " if any(map(self._is_told, self.run.ranks)) else ""
             found = {"Findings, which change no verdict": self.found,
                      "Communicators": self._communicators(), "What this assumes": list(self._assumptions()),
-                     "Where the ranks were that didn't come to MPI_Finalize": where,
+                     f"Where the {others}ranks were that didn't come to MPI_Finalize": where,
                      "Calls at which the judgement of a rank ends": self._stops(True),
                      "Receives of which it isn't known what they took": self._stops(False),
                      "Unanswered questions": [": ".join(one) for one in self.unanswered.items()]}  # fmt: skip
@@ -173,12 +174,15 @@ class Story(Judgement):
         went, rules = self.went, self.rules
         if self.differences and self.verdict == "unfinished":  # where the ranks were has been said
             return
-        yield from cause_sections(went, "It hung here") if went else cause_sections(rules)
-        if went and self.is_hang and cause_lines(rules) != cause_lines(went):
-            title = "It may hang here too" if went.report["verdict"] == "hang" else "It may hang here"
-            yield from cause_sections(rules, title, False)
+        causes = all_causes(went or rules)
+        title = "It hung here" if went else "The cause" if len(causes) == 1 else "The causes"
+        yield from cause_sections(went or rules, title, causes)
+        if went and self.is_hang:
+            is_hang = went.report["verdict"] == "hang"
+            others = other_causes(rules, went if is_hang else None)
+            yield from cause_sections(rules, "It may hang here" + " too" * is_hang, others, False)
         if self.by_tests:
-            yield from cause_sections(self.strict, UNTIL_TESTS, False)
+            yield from cause_sections(self.strict, UNTIL_TESTS, all_causes(self.strict), False)
 
     def _communicators(self):
         """The communicators of stuck calls, but for the world."""
@@ -204,7 +208,7 @@ class Story(Judgement):
             cure = {"free": FREE, "hang": HANG}.get(self.verdicts().get("buffered"), "")
             yield SEND.format(size) + cure + (EAGER if self.eager is None else "")
         elif self.verdict == "hang" and not self.shown.rests_on(STANDARD):
-            yield "No buffer would cure this: no standard send is among these calls."
+            yield "No buffer would cure this: none of these ranks waits in a standard send."
         if any(self.run.journals[one.rank].header.is_multiple for one in self.stuck):
             yield THREADS
         if self.shown.rests_on(COLLECTIVES - {"barrier"} | STARTED_COLLECTIVES):
@@ -224,10 +228,20 @@ class Story(Judgement):
         """A line for all ranks of which the same is said but for how often they asked."""
         ends = {"finalize"} | ({"cut"} if self.run.has_ended else set())
         cut = [one.rank for one in self.run.journals if not one.last or one.last.word not in ends]
+        cut = [rank for rank in cut if not self._is_told(rank)]
         for ranks in grouped(cut, self._place_of):
             counts = sorted(one[2] for one in (self.run.journals[rank].polls for rank in ranks) if one)
             asked = " to ".join(f"{count:,}" for count in dict.fromkeys(counts[:1] + counts[-1:]))
             yield f"{ranks_named(ranks)}: {self._place_of(ranks[0]).replace(TIMES, f'{asked} times')}"
+
+    def _is_told(self, rank: int) -> bool:
+        """Whether it has been said, of a run that hung, that a rank is in its last call."""
+        stuck, journal = self.shown.stuck.get(rank), self.run.journals[rank]
+        is_there = self.verdict == "hang" and self.shown is self.went and stuck and journal.header.is_inside
+        if not is_there or journal.polls or rank in self.run.within:
+            return False
+        call, last = stuck.call, journal.last
+        return (call.word, call.fields, call.site) == (last.word, last.fields, last.site)
 
     def _place_of(self, rank):
         journal, last = self.run.journals[rank], self.run.journals[rank].last
