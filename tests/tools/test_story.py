@@ -297,6 +297,48 @@ class NearMisses(Folders):
                       "MPI_COMM_WORLD", said)  # fmt: skip
 
 
+class Wildcards(Folders):
+    """A hang that rests on the messages that receives with wildcards got in this run says so."""
+
+    HANG, DOUBT = "verdict hang: ", "verdict hang, if wildcards match as in this run: "
+    SENDERS = ("send 0 0 3 4 @2 / recv 0 2 3 @3 / finalize", "send 0 1 3 4 @4 / send 0 0 3 4 @5 / finalize")
+    BOTH = "recv 0 any 3 @1 / =got 2 3 / recv 0 any 3 @1 / =got 1 3 / finalize"
+
+    def check(self, wanted, *ranks, **words):
+        self.again()
+        found = self.judged(*ranks, **words)
+        self.assertEqual((found.status, found.title), (1, f"{wanted}{len(found.stuck)} of {len(ranks)} ranks wait"))
+        said = [line for line in dict(found.sections).get("What this assumes", []) if "has a wildcard" in line]
+        self.assertEqual(bool(said), wanted == self.DOUBT)
+        return said
+
+    def test_a_rank_in_a_receive(self):
+        said = self.check(self.DOUBT, self.BOTH, *self.SENDERS)
+        self.assertTrue(said[0].startswith("rank 0: MPI_Recv at /a.py:1 has a wildcard, and the verdict takes"), said)
+        self.assertIn("--strict decides", said[0])
+
+    def test_a_probe_and_a_receive_of_any_tag(self):
+        self.check(self.DOUBT, f"probe 0 any 3 @1 / =got 2 3 / {self.BOTH}", *self.SENDERS)
+        self.check(self.DOUBT, self.BOTH.replace("0 any 3 @1 / =got 2", "0 2 any @1 / =got 2"), *self.SENDERS)
+
+    def test_a_receive_that_was_begun(self):
+        started = "irecv 1 0 any 3 @1 / {}wait 1 @6 / =done 1 2 3 / recv 0 1 3 @7 / finalize"
+        self.check(self.DOUBT, started.format(""), *self.SENDERS)
+        self.check(self.DOUBT, started.format("recv 0 1 3 @8 / ").replace("/ recv 0 1 3 @7 ", ""),
+                   "recv 0 2 3 @3 / send 0 0 3 4 @2 / finalize", "ssend 0 0 9 @9 / send 0 0 3 4 @5 / finalize")  # fmt: skip
+
+    def test_a_receive_whose_message_was_sent(self):
+        """Its sender is past that send, and has no other one: what holds the ranks is something else."""
+        started = "irecv 1 0 any 3 @1 / ssend 0 1 9 @2 / wait 1 @3 / =done 1 1 3 / finalize"
+        self.check(self.HANG, started, "isend 1 0 0 3 4 @4 / ssend 0 0 9 @5 / wait 1 @6 / finalize")
+        self.check(self.DOUBT, started, "ssend 0 0 9 @5 / send 0 0 3 4 @4 / finalize")
+        self.check(self.HANG, started, "ssend 0 0 9 @5 / send 0 0 4 4 @4 / finalize")
+
+    def test_a_strict_run_and_a_run_that_hung(self):
+        self.check(self.HANG, self.BOTH, *self.SENDERS, after=dict.fromkeys(range(3), " strict"))
+        self.check(self.HANG, "recv 0 any 3 @1 / =got 1 3 / recv 0 1 5 @2", "send 0 0 3 4 @3 / recv 0 0 5 @4")
+
+
 class CutOff(Folders):
     def test_the_hang_that_was_comes_first(self):
         found = self.judged(*MASKED)

@@ -3,6 +3,8 @@
 tools/record/journal.h has the forms of these texts. A line is looked up by its number, which a report names.
 """
 
+from __future__ import annotations
+
 import mmap
 import os
 import re
@@ -40,6 +42,10 @@ BEFORE |= dict.fromkeys(["irecv", "mprobe", "improbe", "comm_idup"], 1)
 # The bytes of a standard send are its last field; three come before them, after those that differ.
 STANDARD_SEND = rb"\n(?:r?send|ir?send \d+|sendrecv \d+ \S+|isendrecv \d+ \d+ \d+ \S+)"
 SIZE = re.compile(STANDARD_SEND + rb"(?: \S+){3} (\d+)(?= @|\n)")
+# Nonblocking receives with wildcards, by their requests; what they received; and all sends.
+WILD = re.compile(rb"\n(?:irecv (\d+)|isendrecv \d+ (\d+)) [^\n@]*\bany\b")
+DONE = re.compile(rb"\n=done (\d+) (\S+) (\S+)")
+SENT = re.compile(rb"\n(?:i?[srb]?send|i?sendrecv) [^\n]*")
 COUNTED = re.compile(r"(?:([PWNw]) (\d{12}) )?(.*)", re.ASCII)  # of leftR; of other lines the text alone
 NAMES = {"exit": "the end of the process", "cut": "the end of the window",
          "comm_make": "a call that makes communicators", "full": "a call"}
@@ -138,6 +144,33 @@ class Journal:
             line += text.count(b"\n", before, found.start() + 1)
             before = found.start() + 1
             yield line
+
+    def _start_of(self, line: int) -> int:
+        """Where a line begins, but for the line feed before it."""
+        place = -1
+        for _ in range(line - 1):
+            place = self.data.find(b"\n", place + 1, self.end)
+        return max(place, 0)
+
+    def open_wildcards(self, line: int) -> Iterator[tuple[int, tuple[str, str]]]:
+        """The lines of nonblocking receives with wildcards that began before a line and completed after it,
+        with the source and the tag that they received."""
+        if not line or not WILD.search(self.data, 0, self.end):
+            return
+        text, start, number, before = self.data[: self.end], self._start_of(line), 1, 0
+        done = {found[1]: found.groups()[1:] for found in DONE.finditer(text, start)}
+        for found in WILD.finditer(text, 0, start):
+            number += text.count(b"\n", before, found.start() + 1)
+            before = found.start() + 1
+            if (found[1] or found[2]) in done:
+                yield number, tuple(one.decode() for one in done[found[1] or found[2]])
+
+    def sends_after(self, line: int, tag: str) -> Iterator[Call]:
+        """The sends with a tag after a line; some may be of other tags."""
+        wanted = b" %b" % tag.encode()
+        for found in SENT.finditer(self.data[: self.end], self._start_of(line + 1)):
+            if wanted in found[0]:
+                yield Call(self.run, self.rank, found[0][1:].decode("latin-1"))
 
     def tail(self):
         """The last calls, as far as they are read at once."""
@@ -248,7 +281,7 @@ class Call:
     def is_collective(self) -> bool:
         return self.word in ALL_COLLECTIVES
 
-    def matches(self, other: "Call") -> bool:
+    def matches(self, other: Call) -> bool:
         """Whether two collective calls of one wave are the same, as MPI wants it."""
         if "comm_make" in (self.word, other.word):  # several functions have this word
             return {self.word, other.word} <= MAKERS

@@ -3,6 +3,7 @@
 import re
 from collections.abc import Iterator
 
+from . import wildcards
 from .causes import all_causes, cause_sections, finding_lines, other_causes
 from .differing import difference_lines, error_of
 from .journals import COLLECTIVES, STANDARD, STARTED_COLLECTIVES
@@ -75,6 +76,8 @@ class Story(Judgement):
         sites = {(one.rank, one.polls[1] if one.polls else one.last.site) for one in cut}
         self.run.places.look_up(sites | {(call.rank, call.site) for call in calls})
         self.found = finding_lines(self.strict or self.shown) if self.shown else []
+        is_of_rules = self.shown is self.rules and self.verdict == "hang" and not self.run.is_strict
+        self.doubts = wildcards.doubts(self.shown) if is_of_rules else []
         self.sections = list(self._sections())
         self.title = self._title() if self.shown else self._refused(self.main.said)
         parts = ["\n".join([f"{name}:", *("  " + line for line in lines)]) for name, lines in self.sections]
@@ -128,7 +131,8 @@ class Story(Judgement):
     def _hang(self):
         many = f"{len(self.stuck)} of {len(self.run.ranks)}"
         may = f"nothing held the ranks when they were cut off, but {many} may wait"
-        return "hang: " + (may if self.may_hang else f"{many} ranks wait")
+        hang = "hang, if wildcards match as in this run" if self.doubts else "hang"
+        return f"{hang}: {may if self.may_hang else f'{many} ranks wait'}"
 
     def _unfinished(self):
         full = [one.rank for one in self.run.journals if one.last and one.last.word == "full"]
@@ -196,6 +200,7 @@ class Story(Judgement):
     def _assumptions(self):
         if self.differences and self.verdict == "unfinished":
             return
+        yield from shortened(self.doubts, 4)
         if self.run.is_strict is None:
             strict = [one.rank for one in self.run.journals if one.header and one.header.is_strict]
             yield f"Only {ranks_named(strict)} ran strictly, so this is reported as a run that wasn't strict."
