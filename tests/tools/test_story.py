@@ -276,6 +276,16 @@ class NearMisses(Folders):
                 with self.subTest(name, receives=receives):
                     self.assertIn(wanted.format(name), self.miss(f"{receives} / barrier 0 / finalize", sends))
 
+    def test_tags_of_buffered_sends_in_runs_that_were_cut_off(self):
+        """They came back, and nothing is found of what a rank doesn't receive that may receive more."""
+        received = "recv 0 1 9 @6 / recv 0 any 9 @6 / =got 1 9 / irecv 1 0 any any @6 / wait 1 @6 / =done 1 1 9"
+        for send, name in (("bsend 0 0 9 @8", "Bsend"), ("isend 1 0 0 9 4 @8", "Isend"), ("ibsend 1 0 0 9 @8", "Ibsend")):
+            with self.subTest(name):
+                said = self.miss("recv 0 1 5 @7", f"{send} / barrier 0 @9")
+                self.assertEqual(said, [f"rank 1 sends to it in MPI_{name} at /a.py:8, but with tag 9 and not 5"])
+                three = " / ".join(send.replace("send 1", f"send {number}") for number in (1, 2, 3))
+                self.assertEqual(self.miss(f"{received} / recv 0 1 5 @7", f"{three} / barrier 0 @9"), [])
+
     def test_sendrecv(self):
         said = self.miss("sendrecv 0 1 3 1 4 4 @7 / finalize", "sendrecv 0 0 3 0 3 4 @8 / finalize")
         self.assertEqual(said, ["rank 1 sends to it in MPI_Sendrecv at /a.py:8, but with tag 3 and not 4",
@@ -464,6 +474,11 @@ class CutOff(Folders):
                 "complete: MPI_Irecv at /a.py:4 from rank 0 with tag 5; before that MPI_Barrier at /a.py:9",
             ],
         )
+
+    def test_a_rank_that_asks_for_the_status_of_a_request(self):
+        said = self.where({}, "irecv 1 0 1 5 @4", "barrier 0 @9", state="oi", after={0: self.POLLS[2].replace(" 01 ", " 07 ")})
+        wanted = "rank 0: asked again and again: MPI_Request_get_status at /a.py:2 (7 times, found nothing); started and not"
+        self.assertTrue(said[0].startswith(wanted), said)
 
     def test_where_the_judgement_ends(self):
         calls = "irecv 1 0 any 3 @1 / barrier 0 / finalize"

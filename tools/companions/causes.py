@@ -89,7 +89,7 @@ def near_misses(stuck):
                 side = "sends to it" if half.is_send else "receives from it"
                 if but and half.is_send != wanted.is_send:
                     found.append(f"    rank {rank} {side} in {call.placed()}, but {but}")
-            yield from found[:3]
+            yield from list(dict.fromkeys(found))[:3]
 
 
 @dataclass

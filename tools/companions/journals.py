@@ -15,11 +15,13 @@ from contextlib import suppress
 from pathlib import Path
 
 BLOCK, TAIL = 1 << 20, 1 << 16  # bytes that are read at once: of lines by number, and of the last calls
+MOST_READ = 1 << 20  # bytes of a journal of which each call is looked at
 HEADER = re.compile(
     rb"journal 2 \d{1,4} (\d{1,4}) \S+ ([io]) .+?( strict)?( multiple)?(?: on (\S+))?"
     rb"(?: polls ([0-9a-f]{8}) ([0-9a-f]{2}) ([0-9a-f]{16}))?", re.DOTALL
 )  # fmt: skip
-POLLS = (None, "MPI_Test", "MPI_Testall", "MPI_Testany", "MPI_Testsome", "MPI_Iprobe", "MPI_Improbe")
+POLLS = (None, "MPI_Test", "MPI_Testall", "MPI_Testany", "MPI_Testsome", "MPI_Iprobe", "MPI_Improbe",
+         "MPI_Request_get_status")  # fmt: skip
 STARTS = re.compile(r"i(?!probe|mprobe|mrecv|nit)\w+|comm_idup")
 ROOTED = {"bcast", "gather", "scatter", "reduce"}
 COLLECTIVES = ROOTED | {"barrier", "allgather", "alltoall", "allreduce", "scan", "exscan"}
@@ -172,9 +174,13 @@ class Journal:
             if wanted in found[0]:
                 yield Call(self.run, self.rank, found[0][1:].decode("latin-1"))
 
-    def tail(self):
+    def all_calls(self) -> list[Call]:
+        """All of its calls with their reports, if there aren't very many."""
+        return self.tail(MOST_READ) if self.end <= MOST_READ else []
+
+    def tail(self, size=TAIL):
         """The last calls, as far as they are read at once."""
-        start, calls = max(self.end - TAIL, 0), []
+        start, calls = max(self.end - size, 0), []
         for line in self.data[start : self.end].decode("latin-1").split("\n")[1:-1]:
             if not line.startswith("="):
                 calls.append(Call(self.run, self.rank, line))

@@ -12,7 +12,7 @@ from functools import cached_property, lru_cache
 from pathlib import Path
 
 from .differing import disagreements
-from .journals import COUNTED, RECEIVES, STANDARD, Call, journals_in, top_of, written
+from .journals import COUNTED, RECEIVES, STANDARD, Call, Half, journals_in, top_of, written
 from .places import Places, printable
 from .script import ENDING, HERE, Status, Stopped, worst
 
@@ -45,6 +45,7 @@ class Run:
         self.uncut = [(call, self.left_out["N"].pop(call)) for call in list(self.left_out["N"])
                       if call.startswith(("moments without a cut", "no windows"))]  # fmt: skip
         self.made, self._calls = lru_cache(None)(self._made), {}
+        self.sent, self.received = lru_cache(None)(self._sent), lru_cache(None)(self._received)
         self.collectives = lru_cache(None)(lambda rank, comm: list(self.journals[rank].collectives_on(comm)))
 
     def count(self, meaning):
@@ -61,6 +62,35 @@ class Run:
         if comm < 2:
             return (rank,) if comm else tuple(self.ranks), None, 0
         return self.journals[rank].made(comm)
+
+    def unmatched(self, rank: int, other: int) -> list[tuple[Call, Half]]:
+        """What a rank sends to another one, and no receive there takes, by source, tag and communicator."""
+        taken, found = self.received(other), []
+        for key, sends in self.sent(rank).get(other, {}).items():
+            found += sends[taken[(rank, *key)] :]
+        return found
+
+    def _sent(self, rank: int) -> dict[int, dict[tuple, list[tuple[Call, Half]]]]:
+        """The sends of a rank by the receiver, and then by tag and members."""
+        found = {}
+        for call in self.journals[rank].all_calls():
+            for half in (half for half in call.halves if half.is_send and half.rank is not None):
+                key = half.tag, self.made(rank, half.comm)[0]
+                found.setdefault(half.rank, {}).setdefault(key, []).append((call, half))
+        return found
+
+    def _received(self, rank: int) -> Counter:
+        """How many receives a rank has, by the source, tag and members. Wildcards have what they received."""
+        calls, found = self.journals[rank].all_calls(), Counter()
+        told = {("=done", one[1]): one[2:] for call in calls for one in call.reports if one[0] == "=done"}
+        for call in (call for call in calls if call.word in RECEIVES - {"probe", "iprobe"}):
+            got = next((one[1:] for one in call.reports if one[0] == "=got"), None)
+            got = got or next((told[key] for one in call.requests if (key := ("=done", one)) in told), None)
+            for half in (half for half in call.halves if not half.is_send):
+                peer, tag = got or (half.peer, half.tag)
+                source = self.world_rank(rank, half.comm, peer)
+                found[(source, tag, self.made(rank, half.comm)[0])] += 1
+        return found
 
     def label(self, rank, comm):
         """A communicator in a few words."""
@@ -180,6 +210,7 @@ class View:
         lacking = stuck.lacking(other) if stuck and (other, None) in stuck.needs else []
         found = [(call, half) for half in lacking for call in stuck.calls if half in call.halves]
         found += self.unreceived.get((rank, other), [])
+        found += [] if self.is_closed(other) else self.run.unmatched(rank, other)  # of which nothing is found
         return list(dict.fromkeys(found + (self.strict.offers(rank, other) if self.strict else [])))
 
     def rests_on(self, words):
