@@ -6,6 +6,7 @@ is known. All is searched in lists, without haste. HeldAmong has who is held whe
 complete, and only some ranks are asked.
 """
 
+from copy import copy
 from dataclasses import dataclass, field
 from functools import cached_property
 
@@ -409,6 +410,11 @@ class Waits:
 
     def held_among(self, asked):
         """The held ranks of those that are asked, where a wave that disagrees never completes."""
+        if not self.disagreeing:  # then the lists and positions are the same
+            same = copy(self)
+            same.__class__, same.barred, same.asked = HeldAmong, set(), set(asked)
+            same._find_held()
+            return same.held
         cuts = [self._first_barred(rank) for rank in self.ranks]
         lists = [one[:cut] + ["open"] if cut < len(one) else one for one, cut in zip(self.lists, cuts)]
         pending = [one if cut == len(mine) else None for one, cut, mine in zip(self.pending, cuts, self.lists)]
