@@ -652,6 +652,22 @@ class Differing(Folders):
             self.assertNotIn("until rank 1 comes to MPI_", found.text)
             self.assertIn("where rank 1 calls MPI_", found.text)
 
+    def test_members_that_disagree_before_the_first_one_calls(self):
+        """A finding compares each call with that of the first member, which has none."""
+        title, calls, did = self.said("recv 0 null 0 @1", "barrier 0 @2", "bcast 0 0 @3", state="oii")
+        self.assertEqual(title, "error: ranks 1 and 2 wait for collective calls on which the ranks disagree, "
+                                "and the run hung")  # fmt: skip
+        self.assertEqual(calls[:2], ["rank 1: MPI_Barrier at /a.py:2", "rank 2: MPI_Bcast at /a.py:3"])
+        self.assertEqual(self.judged().status, 7)
+
+    def test_one_question_by_unproved_code(self):
+        """Who is held as it went, and then what differs: by one question more, where that holds ranks."""
+        for ranks, asked in ((("bcast 0 0 @1", "barrier 0 @2"), ["went", "strict"]), (("barrier 0 @1",) * 2, ["went"])):
+            self.again()
+            self.run_of(*ranks)
+            found = Story(self.folder / "journal", Stored(), is_short=True)
+            self.assertEqual((list(found.answers), found.title[:6] == "error:"), (asked, len(asked) > 1))
+
     def test_what_is_said_with_an_older_checker(self):
         """It knows no --held: then it isn't known which calls they are, nor whether the run hung."""
         self.run_of("bcast 0 0 @1", "barrier 0 @2")

@@ -15,11 +15,13 @@ if TYPE_CHECKING:
     from .journals import Call
     from .runs import Run, View
 
-RULES = {
+RULES = {  # fmt: skip
     "kind": "MPI requires that all ranks of a communicator call its collectives in the same order.",
     "form": "MPI matches no blocking collective with a nonblocking one.",
     "root": "MPI requires the same root on all ranks.",
     "group": "MPI requires that all members of the new communicator agree on its group.",
+    "held": "MPI requires that all ranks of a communicator call its collectives in the same order and with "
+            "the same roots.",
 }
 MOST_WAVES, MOST_PARTIES = 6, 8
 MOST_RANKS = 64  # of a run in which those are looked for that agree with the first one
@@ -77,6 +79,9 @@ class Disagreement:
             call = f"rank {self.first.rank}'s {self.first.placed()}"
             yield f"{call} makes another group than the others say{more}"
             return
+        if self.kind == "held":
+            yield from self.parties()
+            return
         place, is_window = self.place(), self.run.folder.name not in ("1", self.run.top.name)
         which = f"the {ordinal(place)} collective" if place else "a collective"
         yield f"{which} on {self.label()}{' in this window' * bool(place and is_window)}{more}:"
@@ -110,6 +115,20 @@ def disagreements(view: View) -> list[Disagreement]:
     return list(found.values())
 
 
+def held_by_them(went: View) -> set[int]:
+    """The ranks that are held as it went, but not by the verdict: so by collective calls that differ."""
+    return went.held if went.report["verdict"] != "hang" else went.held - set(went.stuck)
+
+
+def differences_of(rules: View | None, went: View | None) -> list[Disagreement]:
+    """The disagreements that are found; or the ranks that are held as it went though no call is missing. Then
+    the first member of the communicator has no call there, and nothing is found of the others."""
+    found = disagreements(rules) if rules else []
+    held = held_by_them(went) if went and not found else set()
+    calls = {rank: went.run.journals[rank].last for rank in sorted(held)}
+    return found or ([Disagreement(went.run, "held", None, [], calls)] if calls else [])
+
+
 def key_of(one: Disagreement) -> tuple:
     """Disagreements with the same key are told once."""
     calls = tuple((rank, call.name, call.where, call.root) for rank, call in one.calls.items())
@@ -139,6 +158,8 @@ def error_of(found: list[Disagreement]) -> str:
     one, first, label = found[0], found[0].first, found[0].label()
     if one.kind == "group":
         return f"the ranks disagree on the group of the communicator that {first.name} makes"
+    if one.kind == "held":
+        return f"{ranks_named(one.calls)} wait for collective calls on which the ranks disagree"
     if one.kind == "root":
         return f"the ranks disagree on the root of {first.name if first else 'a collective'} on {label}"
     if one.kind == "form":

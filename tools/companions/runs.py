@@ -11,7 +11,7 @@ from contextlib import suppress
 from functools import cached_property, lru_cache
 from pathlib import Path
 
-from .differing import disagreements
+from .differing import differences_of, held_by_them
 from .journals import COUNTED, RECEIVES, STANDARD, Call, Half, journals_in, top_of, written
 from .places import Places, printable
 from .script import ENDING, HERE, Status, Stopped, worst
@@ -288,8 +288,12 @@ class Judgement:
         self.answers, self.views = {}, {}
         if not run.has_ended:
             self._ask("went", calls="went")
+        went = self.views.get("went")
+        # Calls that differ are found by the strict question: it is asked too where they hold ranks.
+        self.is_short = is_short and not (went and held_by_them(went))
         if all(answer.report for answer in self.answers.values()):
             self._ask("strict")
+        self.is_short = is_short
         self.main = next(iter(self.answers.values()))  # the answer that the report is about
         self.strict, self.went = self.views.get("strict"), self.views.get("went")
         if self.strict and self.strict.report["verdict"] == "hang":
@@ -308,7 +312,7 @@ class Judgement:
         self.may_hang = self.is_hang and self.verdicts().get("went") == "unfinished"
         self.shown = self.went if self.went and not self.may_hang else self.rules
         self.verdict = self.shown.report["verdict"] if self.shown else None
-        self.differences = disagreements(self.strict or self.shown) if self.shown else []
+        self.differences = differences_of(self.strict or self.shown, self.went)
         self.program_status, self.status = program_status, self._status(program_status)
 
     def _ask(self, name, **options):

@@ -12,7 +12,7 @@ from collections.abc import Iterable
 from contextlib import suppress
 
 from .causes import stuck_lines
-from .differing import difference_lines, disagreements, error_of
+from .differing import difference_lines, differences_of, error_of
 from .journals import windows_in
 from .outputs import runs_in
 from .runs import Run, View
@@ -115,7 +115,7 @@ class Alarm:
     def _reasons(self, view: View, held: set[int]) -> list[str]:
         """Collective calls that differ, and for what the held ranks wait."""
         answer, lines = self.judge.ask_held(view.run.folder), []
-        differences = disagreements(View(view.run, answer.report)) if answer.report else []
+        differences = differences_of(View(view.run, answer.report) if answer.report else None, view)
         if differences:
             lines = [f"error: {error_of(differences)}"]
             lines += [f"  {line}" for line in difference_lines(differences)]
