@@ -67,7 +67,7 @@ class Disagreement:
     def parties(self) -> list[str]:
         """Who calls what, in words: ranks with the same call share a line."""
         def key(call: Call) -> tuple:
-            return call.where or call.rank, call.name, call.root
+            return call.where or call.rank, call.name, call.root if self.kind == "root" else None
 
         groups = grouped(self.all_calls().values(), key)
         ranks = [ranks_named(call.rank for call in group) for group in groups]
