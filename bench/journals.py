@@ -1,7 +1,8 @@
 #!/usr/bin/env python3
 """What a run's journals stand for, by definition: a second program to compare `judge` and `close` with.
 
-    journals.py judge [--as-closed] [--json] [--eager N] [--tests wait|pass] [--calls strict|went] FOLDER
+    journals.py judge [--as-closed] [--json [--held[=R,..]]] [--eager N] [--tests wait|pass]
+                      [--calls strict|went] FOLDER
     journals.py close [--tests wait|pass] [--calls strict|went] FOLDER OUT
 
 It is no part of the product and shares nothing with it. bench/journal_faults.py knows the form of journals, and
@@ -19,6 +20,7 @@ import argparse
 import heapq
 import json
 import os
+import re
 import subprocess
 import sys
 import tempfile
@@ -44,6 +46,7 @@ from wait_graph import Message, Pending, Waits  # noqa: E402
 
 MOST_LINES = 1_000_000  # of a trace
 MOST_REQUESTS = 64  # of a wait
+ALL = "all of them"  # as the value of --held, where it has none
 
 ALWAYS_BACK = {"test", "iprobe", "improbe"}
 OF_OTHER_CALLS = {"=done", "=gone", "=kept", "=moved", "=apart"}
@@ -588,9 +591,21 @@ class Recording:
         return said.returncode, json.loads(said.stdout)
 
     def report_with_lines(self, words):
-        """The same with the places that it names, as for --json."""
+        """The same with the places that it names, as for --json, and with what --held asks for."""
         status, report = self.report(words)
-        return status, report | {"lines": self.lines(report)}
+        return status, report | {"lines": self.lines(report)} | self.held(report, words)
+
+    def held(self, report, words):
+        """The calls of each finding, and the held ranks of those that are asked."""
+        if words.held is None:
+            return {}
+        ranks = range(len(self.lists))
+        asked = [int(rank) for rank in words.held.split(",")] if words.held != ALL else ranks
+        if wrong := [rank for rank in asked if rank not in ranks]:
+            raise Named(f"usage: --held names rank {wrong[0]}, and there are {len(ranks)} ranks", 3)
+        waits = self.waits(words.eager)
+        calls = [waits.calls_of_finding(finding) for finding in report["findings"]]
+        return {"finding_calls": calls, "held": waits.held_among(asked)}
 
     def left(self):
         return [[rank, *left] for rank, one in enumerate(self.lists) for left in one.left]
@@ -720,14 +735,25 @@ def parser_of_words():
             sub.add_argument("--json", action="store_true")
             sub.add_argument("--eager", metavar="N")
             sub.add_argument("--as-closed", action="store_true")
+            sub.add_argument("--held", metavar="R,..", type=ranks_of)
         sub.add_argument("folder", metavar="FOLDER")
         if command is close:
             sub.add_argument("out", metavar="OUT")
     return parser
 
 
+def ranks_of(text):
+    """The value of --held: numbers with commas between them, or ALL."""
+    if text != ALL and not re.fullmatch("[0-9]{1,9}(,[0-9]{1,9})*", text):
+        raise argparse.ArgumentTypeError(f"no ranks: {text!r}")
+    return text
+
+
 def words_of(argv):
-    return parser_of_words().parse_args(argv)
+    words = parser_of_words().parse_args([f"--held={ALL}" if word == "--held" else word for word in argv])
+    if words.run is judge and words.held is not None and not words.json:
+        parser_of_words().error("--held needs --json")
+    return words
 
 
 def main():

@@ -2,10 +2,13 @@
 
 A rank whose trace ends with `open' may have a pending call, which waits for all or any of some items: messages and
 requests. A sink is a start that stands for a receive of which nobody knows what it took: the message that it may take
-is known. All is searched in lists, without haste.
+is known. All is searched in lists, without haste. HeldAmong has who is held where calls of one wave that differ never
+complete, and only some ranks are asked.
 """
 
+from copy import copy
 from dataclasses import dataclass, field
+from functools import cached_property
 
 SENDS = {"send", "ssend", "bsend"}
 STARTED_SENDS = {"isend", "issend", "ibsend"}
@@ -109,6 +112,9 @@ class Waits:
             if call.sent and (rank, at) not in self.partner_of_send
         ]
         self.stuck = [rank for rank in self.ranks if not self.is_at_end(rank)]
+        self._find_held()
+
+    def _find_held(self):
         self.loose = set()
         while more := {rank for rank in self.ranks if rank not in self.loose and self._is_loose(rank)}:
             self.loose |= more
@@ -390,6 +396,98 @@ class Waits:
             given = [group[place] for _, place, _ in sorted(of_colour)]
             if list(self.groups[int(new)]) != given or sorted(of_colour)[0][2] != new:
                 yield group[member], self.waves[comm, group[member]][wave]
+
+
+    def calls_of_finding(self, finding):
+        """The rank and the place of each of its calls: of a wave that of the first member, and of the named one."""
+        kind, *fields = finding.split(" ")
+        if kind not in ("kind", "root"):
+            return [[int(fields[0]), int(fields[1])]]
+        comm, wave, member = map(int, fields[:3])
+        return [[rank, self.waves[comm, rank][wave]] for rank in (self.groups[comm][0], self.groups[comm][member])]
+
+    # ---- Waves that disagree ----
+
+    def held_among(self, asked):
+        """The held ranks of those that are asked, where a wave that disagrees never completes."""
+        if not self.disagreeing:  # then the lists and positions are the same
+            same = copy(self)
+            same.__class__, same.barred, same.asked = HeldAmong, set(), set(asked)
+            same._find_held()
+            return same.held
+        cuts = [self._first_barred(rank) for rank in self.ranks]
+        lists = [one[:cut] + ["open"] if cut < len(one) else one for one, cut in zip(self.lists, cuts)]
+        pending = [one if cut == len(mine) else None for one, cut, mine in zip(self.pending, cuts, self.lists)]
+        sinks = [{at: one for at, one in mine.items() if at < cut} for mine, cut in zip(self.sinks, cuts)]
+        barred = {rank for rank in self.ranks if cuts[rank] < len(self.lists[rank])}
+        return HeldAmong(self.groups, lists, pending, sinks, self.eager, barred=barred, asked=set(asked)).held
+
+    def _first_barred(self, rank):
+        """The place of the first call that waits for a wave that disagrees, or how long its list is."""
+        for at, call in enumerate(self.calls[rank]):
+            waits_for = self.requests(rank, at) if call.request is None and call.comm is None else [at]
+            if call.request is None and any((rank, one) in self.disagreeing for one in waits_for):
+                return at
+        return len(self.calls[rank])
+
+    @cached_property
+    def disagreeing(self):
+        """The ranks and places of the calls of all waves that disagree."""
+        found = set()
+        for comm, group in enumerate(self.groups):
+            for wave, calls in enumerate(self._calls_of_waves(comm, group)):
+                members = [(rank, self.waves[comm, rank][wave]) for rank, call in zip(group, calls) if call]
+                if len({self._operation(*one) for one in members}) > 1 or self._mixes_forms(members):
+                    found.update(members)
+        return found
+
+    def _operation(self, rank, at):
+        """What members have to agree on: the word without its form, and the root."""
+        call = self.calls[rank][at]
+        word = call.word.removeprefix("i") if call.request is not None else call.word
+        return word, call.fields[-1] if word in ROOTED else None
+
+    def _mixes_forms(self, members):
+        """Whether some call is blocking, and another one nonblocking with a later call that completes it."""
+        forms = {self.calls[rank][at].request is None for rank, at in members}
+        return len(forms) > 1 and any(one in self.completed for one in members)
+
+    @cached_property
+    def completed(self):
+        """The ranks and places of the starts that a later call completes."""
+        places = ((rank, at) for rank in self.ranks for at in range(len(self.calls[rank])))
+        return {(rank, start) for rank, at in places for start in self.requests(rank, at)}
+
+
+class HeldAmong(Waits):
+    """The same over lists of which those of the barred ranks end with `open' in place of a call that never comes back.
+    Only the asked ranks may be held; each other one may call anything."""
+
+    def __init__(self, *of_waits, barred, asked):
+        self.barred, self.asked = barred, asked
+        super().__init__(*of_waits)
+
+    def _find_held(self):
+        self.loose = {rank for rank in self.ranks if rank not in self.asked}
+        while more := {rank for rank in self.ranks if rank not in self.loose and self._is_loose(rank)}:
+            self.loose |= more
+        waiting = {*self.stuck, *filter(self._is_at_pending_or_barred, self.ranks)}
+        self.held = sorted(waiting - self.loose)
+
+    def _is_at_pending_or_barred(self, rank):
+        return self.is_at_pending(rank) or self.is_at_end(rank) and rank in self.barred
+
+    def _is_loose(self, rank):
+        return not (self.is_at_end(rank) and rank in self.barred) and super()._is_loose(rank)
+
+    def may_come(self, need):
+        return need.rank not in self.asked or super().may_come(need)
+
+    def senders(self, rank, message):
+        group = self.groups[message.comm]
+        members = group if message.source == "any" else [group[message.source]]
+        others = {one for one in members if one not in self.asked} - {rank}
+        return sorted(others.union(super().senders(rank, message)))
 
 
 def spelled_needs(needs):

@@ -63,16 +63,16 @@ class Run(unittest.TestCase):
 
     def test_without_a_proof_it_asks_once(self):
         status, asked, said = self.run_again("--unproved")
-        self.assertEqual((status, asked), (1, ["--unproved judge --json ."]))
+        self.assertEqual((status, asked), (1, ["--unproved judge --json --held ."]))
         self.assertIn("verdict hang: 1 of 1 ranks wait", said)
         self.assertNotIn(BUFFERED, said)
         status, asked, _ = self.run_again("--unproved", "--eager", "+3")
-        self.assertEqual((status, asked), (1, ["--unproved judge --json --eager=3 ."]))
+        self.assertEqual((status, asked), (1, ["--unproved judge --json --held --eager=3 ."]))
 
     def test_else_it_asks_of_buffers(self):
         for words, environment in (((), {}), (["--unproved"], {"MPIWAIT": str(self.checker)})):
             status, asked, said = self.run_again(*words, **environment)
-            self.assertEqual((status, asked), (1, ["judge --json .", "judge --json --eager=2147483647 ."]))
+            self.assertEqual((status, asked), (1, ["judge --json --held .", "judge --json --held --eager=2147483647 ."]))
             self.assertIn(BUFFERED, said)
 
     def test_a_check_that_fails_says_nothing_of_buffers(self):

@@ -124,6 +124,67 @@ class Reference(Folders):
         text += "finding request 0 2 2\nleft 0 2 never told\nleft 0 3 not judged\n"
         self.assertEqual(self.run_program("judge", self.folder / "journal"), (5, text, ""))
 
+    def held(self, *ranks, words=("--calls", "went"), asked=""):
+        """Which ranks are held, of all or of those that are asked."""
+        self.again()
+        self.run_of(*ranks)
+        words = ["judge", "--json", *words, f"--held{asked and '='}{asked}", self.folder / "journal"]
+        return json.loads(self.run_program(*words)[1])["held"]
+
+    def test_who_is_held_where_calls_of_a_wave_differ(self):
+        started = "ibarrier 1 0 / wait 1"
+        for ranks, wanted in (
+            (("barrier 0", "bcast 0 0"), [0, 1]), (("gather 0 0", "gather 0 1", "gather 0 0"), [0, 1, 2]),
+            (("barrier 0", "allreduce 0 / recv 0 0 7"), [0, 1]), (("barrier 0", "barrier 0"), []),
+            ((started, "iallreduce 1 0 / wait 1"), [0, 1]), ((started, "iallreduce 1 0"), [0]),
+            ((started, "barrier 0"), [0, 1]), ((started, "ibarrier 1 0 / recv 0 0 7"), []),
+            (("barrier 0", "ibarrier 1 0 / recv 0 0 7"), []), (("barrier 0", "barrier 0 / recv 0 0 7"), []),
+            (("recv 0 1 5", "barrier 0", "bcast 0 0"), [0, 1, 2]), (("barrier 0", "recv 0 2 7", "bcast 0 0 / finalize"), [0, 1]),
+        ):  # fmt: skip
+            with self.subTest(ranks):
+                self.assertEqual(self.held(*ranks), wanted)
+
+    def test_who_is_held_of_those_that_are_asked(self):
+        ranks = ("recv 0 1 0", "finalize", "barrier 0", "bcast 0 0", "recv 0 any 3")
+        for asked, wanted in (("0", []), ("0,1", [0]), ("2", [2]), ("3,2", [2, 3]), ("4", []), ("4,1,0,2", [0, 2]),
+                              ("4,3,2,1,0", [0, 2, 3, 4]), ("", [0, 2, 3, 4])):  # fmt: skip
+            with self.subTest(asked):
+                self.assertEqual(self.held(*ranks, asked=asked), wanted)
+
+    def test_who_is_held_where_no_calls_differ(self):
+        runs = script("held-journals", TOP / "bench")
+        seen = 0
+        for seed in range(80):
+            self.again()
+            words = ["judge", "--json", "--held", *runs.put_runs(self.folder, seed), str(self.folder / "J")]
+            with self.subTest(seed), contextlib.suppress(JOURNALS.Named):
+                recording = JOURNALS.Recording(words := JOURNALS.words_of(words))
+                waits = recording.waits(words.eager)
+                if not waits.disagreeing:
+                    self.assertEqual(recording.report_with_lines(words)[1]["held"], waits.held)
+                    seen += bool(waits.held)
+        self.assertGreater(seen, 5)
+
+    def test_the_calls_of_findings(self):
+        made = "comm_split 0 0 {} / =comm 2 1 0 / "
+        self.run_of(f"{made.format(1)}bcast 2 0 / finalize", f"{made.format(0)}isend 1 0 0 3 / bcast 2 1 / finalize")
+        words = ["judge", "--json", self.folder / "journal"]
+        status, plain, _ = self.run_program(*words)
+        report = json.loads(self.run_program(*words, "--held")[1])
+        self.assertEqual(report["findings"], ["root 1 0 1 1 0", "unreceived 1 1", "request 1 1 0"])
+        self.assertEqual(report["finding_calls"], [[[1, 2], [0, 1]], [[1, 1]], [[1, 1]]])
+        self.assertEqual((status, list(report)[1:4]), (0, ["finding_calls", "findings", "held"]))
+        del report["finding_calls"], report["held"]
+        self.assertEqual(json.dumps(report, sort_keys=True, separators=(",", ":")) + "\n", plain)
+
+    def test_wrong_words_of_held(self):
+        self.run_of("finalize", "finalize")
+        for words in (["--held"], ["--json", "--held="], ["--json", "--held=0,"], ["--json", "--held=x"]):
+            with self.subTest(words), self.assertRaises(SystemExit) as ended:
+                self.run_program("judge", *words, self.folder / "journal")
+            self.assertEqual(ended.exception.code, 3)
+        self.assertEqual(self.run_program("judge", "--json", "--held=0,2", self.folder / "journal")[:2], (3, ""))
+
     def test_faults(self):
         self.run_of("finalize", "barrier 0 / foo")
         folder = self.folder / "journal"
