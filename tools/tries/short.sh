@@ -58,4 +58,5 @@ try_some_windows() {
     prepare "$1" windows.c 3
     try_free_windows "$1"
     try_window_that_hangs "$1"
+    try_way_without_cut "$1" under 'moments without a cut: messages were under way'
 }

@@ -32,11 +32,16 @@ expect_removed() {
 }
 
 # Where no window ends, the report says why. Each sum would be the end of one.
+try_way_without_cut() {
+    local library=$1 way=$2 why=$3
+    run_with --window 1 "${command[@]}" 100 "$way" 0
+    expect_windows "$library: windows.c $way" 0 0 "$why"
+}
+
 try_no_cut() {
     local library=$1 way why
     while read -r way why; do
-        run_with --window 1 "${command[@]}" 100 "$way" 0
-        expect_windows "$library: windows.c $way" 0 0 "$why"
+        try_way_without_cut "$library" "$way" "$why"
     done <<'END_OF_WAYS'
 under moments without a cut: messages were under way
 posted moments without a cut: messages were under way
