@@ -1,4 +1,4 @@
-"""The words, lengths and links of all documents of the repository. A unit test: no part of what is proved."""
+"""The words, sentences and links of all documents of the repository. A unit test: no part of what is proved."""
 
 import pathlib
 import re
@@ -21,19 +21,6 @@ DIALECT = {
 }
 WORDS_IN_A_SENTENCE = 40
 LETTERS_IN_A_PARAGRAPH = 600
-# The most bytes of a document, and of all of LISTED together.
-BYTES = {
-    "README.md": 6_500,
-    "CONTRIBUTING.md": 8_000,
-    "docs/ARCHITECTURE.md": 12_288,
-    "docs/DECISIONS.md": 25_600,
-    "docs/DEFINITIONS.md": 22_000,
-    "docs/FORMATS.md": 42_400,
-    "docs/PROOFS.md": 20_480,
-    "docs/TESTING.md": 10_240,
-    "tools/README.md": 20_500,
-}
-ALL_BYTES = 159_000
 # Where a document is read, if that isn't its own folder: the one of a release lies at its top.
 PLACES = {"release/README.md": TOP}
 
@@ -148,15 +135,6 @@ class Documents(unittest.TestCase):
             for paragraph in paragraphs(text_of(name))
             if len(paragraph) > LETTERS_IN_A_PARAGRAPH
         )
-
-    def test_sizes(self):
-        sizes = {name: (TOP / name).stat().st_size for name in BYTES if (TOP / name).is_file()}
-        self.each(
-            f"{name}: {size} bytes, and at most {BYTES[name]}"
-            for name, size in sizes.items()
-            if size > BYTES[name]
-        )
-        self.assertLessEqual(sum(sizes.values()), ALL_BYTES)
 
     def test_what_no_report_speaks_of(self):
         item = next(one for one in paragraphs(text_of("tools/README.md")) if one.startswith("- Nothing is said of"))

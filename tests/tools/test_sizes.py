@@ -1,11 +1,11 @@
-"""How long the scripts of tools/ are. Tries and tests are left out, but for their columns."""
+"""How long the functions and lines of the scripts of tools/ and bench/ are, and who reads journals."""
 
 import ast
 import unittest
 
 from support import TOOLS, TOP
 
-MOST_LINES, MOST_IN_A_FUNCTION, MOST_COLUMNS, MOST_IN_BENCH = 2310, 40, 110, 120
+MOST_IN_A_FUNCTION, MOST_COLUMNS, MOST_IN_BENCH = 40, 110, 120
 
 
 def is_script(path):
@@ -19,11 +19,6 @@ def scripts(folder=TOOLS):
     return sorted(path for path in found if is_script(path))
 
 
-def is_tried(path):
-    """Whether it is a part of the tries."""
-    return path.name == "try" or {"tries", "programs"} & set(path.relative_to(TOOLS).parts)
-
-
 def functions(text):
     """Names and lengths."""
     kinds = (ast.FunctionDef, ast.AsyncFunctionDef)
@@ -32,11 +27,6 @@ def functions(text):
 
 
 class Sizes(unittest.TestCase):
-    def test_all_lines(self):
-        counts = {path.name: path.read_bytes().count(b"\n") for path in scripts() if not is_tried(path)}
-        self.assertIn("watching.py", counts)
-        self.assertLessEqual(sum(counts.values()), MOST_LINES, counts)
-
     def test_functions(self):
         for path in scripts():
             if b"python" in path.read_bytes()[:40] or path.suffix == ".py":
@@ -53,15 +43,6 @@ class Sizes(unittest.TestCase):
         for path in (TOOLS / "companions").glob("*.py"):
             if path.name != "journals.py":
                 self.assertNotIn(".data", path.read_text("utf-8"), path)
-
-    def test_commands_have_no_code_of_their_own(self):
-        """All of it is in one package, but for what they say if that can't be read."""
-        commands = {path.name: path.read_text("utf-8") for path in scripts() if path.parent == TOOLS}
-        self.assertEqual(sorted(commands), ["limits", "run", "try"])
-        self.assertLessEqual({commands[name].count("\n") for name in ("limits", "run")}, {11})
-
-    def test_the_script_at_the_top(self):
-        self.assertLessEqual((TOP / "mpiwait").read_bytes().count(b"\n"), 90)
 
 
 if __name__ == "__main__":
