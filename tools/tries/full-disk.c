@@ -1,5 +1,5 @@
-/* A disk with no room: of the recorder's requests for room, those beyond the first megabyte of a file are denied.
- * It is preloaded with the recorder. */
+/* A disk with no room: of the recorder's requests for room, those beyond the first megabyte of a file are
+ * denied. It is preloaded with the recorder. */
 #define _GNU_SOURCE
 #include <dlfcn.h>
 #include <errno.h>

@@ -22,7 +22,8 @@ try_readme() {
     check_journals "$name"
     report_of_readme >"$work/shown.report"
     if [[ $library == openmpi ]]; then
-        [[ $(grep -c 'rank [01] .*MPI_Send at exchange[.]c:8' "$work/report") == 2 ]] || wrong='no line of a send'
+        [[ $(grep -c 'rank [01] .*MPI_Send at exchange[.]c:8' "$work/report") == 2 ]] ||
+            wrong='no line of a send'
     else
         head -n "$(wc -l <"$work/shown.report")" "$work/report" | diff -u -- "$work/shown.report" - ||
             wrong='not the report that README.md shows'
