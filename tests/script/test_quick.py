@@ -144,25 +144,26 @@ class Quick(unittest.TestCase):
 class Rows(unittest.TestCase):
     """The script tests/rows."""
 
-    def picked(self, text, name):
+    def picked(self, text, fit, name):
         with tempfile.TemporaryDirectory() as folder:
             write(Path(folder, "stdin"), text)
-            words = [TOP / "tests/rows", Path(folder, "stdin"), name]
+            words = [TOP / "tests/rows", Path(folder, "stdin"), fit, name]
             done = subprocess.run(words, text=True, capture_output=True, check=False)
         return done.returncode, done.stdout
 
     def test_names(self):
         text = "# Of a row.\nrow a b\nask\n\nrow a\nask more\nrow b a\n"
-        self.assertEqual(self.picked(text, "a b"), (0, "row a b\nask\n\n"))
-        self.assertEqual(self.picked(text, "a"), (0, "row a\nask more\n"))
-        self.assertEqual(self.picked(text, "b"), (0, "row b a\n"))
-        self.assertEqual(self.picked(text, " b"), (0, "row a b\nask\n\n"))
-        self.assertEqual(self.picked(text, "c"), (1, ""))
+        self.assertEqual(self.picked(text, "is", "a"), (0, "row a\nask more\n"))
+        self.assertEqual(self.picked(text, "is", " b"), (1, ""))
+        self.assertEqual(self.picked(text, "begins", "b"), (0, "row b a\n"))
+        self.assertEqual(self.picked(text, "has", " b"), (0, "row a b\nask\n\n"))
+        self.assertEqual(self.picked(text, "has", "c"), (1, ""))
+        self.assertEqual(self.picked(text, "ends", "a"), (3, ""))
 
     def test_what_a_row_builds_on(self):
         text = "row a\n1\nsame b\n2\nsame c\n3\nrow d\n"
-        self.assertEqual(self.picked(text, "c"), (0, "row a\n1\nsame b\n2\nsame c\n3\n"))
-        self.assertEqual(self.picked(text, "a"), (0, "row a\n1\n"))
+        self.assertEqual(self.picked(text, "is", "c"), (0, "row a\n1\nsame b\n2\nsame c\n3\n"))
+        self.assertEqual(self.picked(text, "is", "a"), (0, "row a\n1\n"))
 
     def test_each_stored_row_has_a_name_of_its_own(self):
         for crate in ("cli_rows", "api_rows"):
