@@ -1,4 +1,4 @@
-"""What the scripts of tools/compare share: sources by apt-get, runs under tools/run, several at a time, and tables."""
+"""What the scripts of tools/compare share: sources by apt-get, runs under tools/run, and tables."""
 
 import argparse
 import json
@@ -90,9 +90,11 @@ def run_within(command: list[str], seconds: float, folder: Path, **more: str) ->
         return None, said
 
 
-def record(command: list[str], options: list[str], seconds: float, folder: Path, at: Path | None = None) -> Result:
-    """What tools/run answers of a command, which it ends after so many seconds; it runs in the folder `at'. The
-    recording is removed."""
+def record(
+    command: list[str], options: list[str], seconds: float, folder: Path, at: Path | None = None
+) -> Result:
+    """What tools/run answers of a command, which runs in the folder `at' and is ended after so many seconds.
+    The recording is removed."""
     recording, report = folder / "mpiwait-run", folder / "report.json"
     report.unlink(missing_ok=True)
     words = [str(RUN), "--folder", str(recording), "--json", str(report), "--for", str(seconds), *options]
@@ -127,9 +129,12 @@ def lines_named(result: Result, file: str) -> set[int]:
     return {int(number) for number in re.findall(rf"\b{re.escape(file)}:(\d+)", result["said"])}
 
 
-def run_all(names: Iterable[str], run: Callable[[str, Path], Result], folder: Path, jobs: int) -> dict[str, Result]:
+def run_all(
+    names: Iterable[str], run: Callable[[str, Path], Result], folder: Path, jobs: int
+) -> dict[str, Result]:
     """The results of all names. One that is stored isn't run again: so a run that was ended is taken up."""
-    results, stored = {}, folder / "results"
+    results: dict[str, Result] = {}
+    stored = folder / "results"
     stored.mkdir(parents=True, exist_ok=True)
     names = list(names)
 
@@ -217,14 +222,14 @@ def words_of(doc: str, name: str) -> argparse.ArgumentParser:
     add("--take", type=int, metavar="N", help="run so many, evenly from all")
     add("--for", type=float, default=20, dest="seconds", metavar="SECONDS", help="end a run after that time")
     add("--strict", action="store_true", help="record with tools/run --strict")
-    add("--folder", type=Path, default=Path(f"mpiwait-compare/{name}"), help="for sources, programs and results")
-    add("--into", type=Path, metavar="FILE", help="put the tables into this document too, as docs/COMPARED.md")
+    add("--folder", type=Path, default=Path(f"mpiwait-compare/{name}"), help="for all that it makes")
+    add("--into", type=Path, metavar="FILE", help="put the tables into a document, as docs/COMPARED.md")
     add("--table", action="store_true", help="run nothing, and print the tables of what is stored")
     return parser
 
 
 def run_script(main: Callable[[], int]) -> None:
-    """The status is 3 if something is missing. A signal ends what was started, by ending this script's group."""
+    """The status is 3 if something is missing."""
     signal.signal(signal.SIGTERM, lambda *_: sys.exit(143))
     try:
         sys.exit(main())
