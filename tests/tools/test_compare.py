@@ -65,6 +65,11 @@ class Answers(Folders):
         (self.folder / "journal/1/left1").write_text("P 000000000001 MPI_Mrecv\nw 000000000003 MPI_Win_free\n")
         self.assertEqual(common.counted_in(self.folder), ["MPI_Mrecv", "MPI_Win_free"])
 
+    def test_what_is_missing(self) -> None:
+        common.need("sh")
+        with self.assertRaisesRegex(common.Stopped, "there is no no-such-command: "):
+            common.need("sh", "no-such-command")
+
     def test_some_of_all(self) -> None:
         names = [str(number) for number in range(10)]
         self.assertEqual(common.some_of(names, None), names)

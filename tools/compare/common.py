@@ -23,6 +23,12 @@ class Stopped(Exception):
     """Something is missing, or can't be done: why."""
 
 
+def need(*commands: str) -> None:
+    missing = [command for command in commands if not shutil.which(command)]
+    if missing:
+        raise Stopped(f"there is no {', '.join(missing)}: docs/COMPARED.md says what to install")
+
+
 # ---- Sources -------------------------------------------------------------------------------------
 
 
