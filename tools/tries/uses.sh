@@ -321,7 +321,8 @@ try_mounted_disk() {
         >"$work/on-small"
     launch "$library" 1
     build "$library" many-calls.c
-    command=(env OMPI_ALLOW_RUN_AS_ROOT=1 OMPI_ALLOW_RUN_AS_ROOT_CONFIRM=1 "${alone[@]}" \
+    # Who is root there may not write into folders of root.
+    command=(env TMPDIR="$work" OMPI_ALLOW_RUN_AS_ROOT=1 OMPI_ALLOW_RUN_AS_ROOT_CONFIRM=1 "${alone[@]}" \
         sh "$work/on-small" "$work/small" "$work/run" "${command[@]}")
     record_into "$library" "$work/small/journal"
     touch -- "$work/run/.mpiwait-run"
