@@ -15,16 +15,17 @@ expect_quiet() {
     fi
 }
 
-# Ranks 0 and 1 wait for each other after 30 seconds of work, also while a third one goes on.
+# Ranks 0 and 1 wait for each other after some seconds of work, also while a third one goes on.
 try_alarm_of_a_hang() {
-    local library=$1 ranks=$2 begun after wrong=''
+    local library=$1 ranks=$2 seconds=$3 begun after wrong=''
+    shift 3
     prepare "$library" quiet.c "$ranks"
-    run_with --stop "${command[@]}" hang 30
+    run_with --stop "$@" "${command[@]}" hang "$seconds"
     begun=$(sed -n 's/^hang at \([0-9]*\)$/\1/p' "$work/errors")
     after=$(($(date +%s) - ${begun:-0}))
     ((after <= 15)) || wrong="$after seconds later"
     wait_until is_left_over || wrong="left over: $(left_over)"
-    expect_line "$library: a hang of two ranks among $ranks after 30 seconds" 1 \
+    expect_line "$library: a hang of two ranks among $ranks after $seconds seconds" 1 \
         'ranks 0 and 1 wait for ever.*; the run is ended' "reported and ended $after seconds later" "$wrong"
 }
 
@@ -70,8 +71,8 @@ try_alarm_of_other_machines() {
 
 try_alarm() {
     local library=$1 way seconds
-    try_alarm_of_a_hang "$library" 2
-    try_alarm_of_a_hang "$library" 3
+    try_alarm_of_a_hang "$library" 2 30
+    try_alarm_of_a_hang "$library" 3 30
     try_alarm_without_stop "$library"
     try_alarm_of_other_machines "$library"
     try_alarm_of_differing_calls "$library" root

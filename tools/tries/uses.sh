@@ -2,12 +2,6 @@
 # tools/try, which reads it.
 # shellcheck shell=bash
 
-mounted=''
-
-end_tries() {
-    [[ -z $mounted ]] || umount "$mounted" 2>/dev/null || :
-}
-
 # The program of a source for so many ranks, in `command'.
 prepare() {
     launch "$1" "$3"
@@ -302,24 +296,52 @@ try_no_room() {
     try_limited "$library" names
     try_limited "$library" places
     try_no_files "$library"
-    name="$library: a full disk"
-    prepare "$library" many-calls.c 1
-    run_with true 2>/dev/null || :
+    try_full_disk "$library"
+}
+
+# ---- A full disk ----------------------------------------------------------------------------------
+
+# Whether something can be mounted, by a command that gives it a namespace of its own.
+mounts() {
+    # shellcheck disable=SC2016
+    "$@" sh -c 'mount -t tmpfs -o size=1m none "$1"' sh "$work/small" 2>/dev/null
+}
+
+# A disk of a megabyte, mounted for the recording alone. What was recorded is copied before it is gone.
+try_mounted_disk() {
+    local library=$1 name="$1: a full disk" alone=(unshare --mount)
     mkdir -p -- "$work/small"
-    if ! mount -t tmpfs -o size=1m none "$work/small" 2>/dev/null; then
-        echo "$name: passed over: it can't be mounted"
-        return
-    fi
-    mounted=$work/small
+    mounts "${alone[@]}" || alone=(unshare --user --map-root-user --mount)
+    mounts "${alone[@]}" || { echo "$name: passed over: nothing can be mounted"; return; }
     rm -rf -- "$work/run"
-    mkdir -p -- "$work/small/journal" "$work/run"
+    mkdir -p -- "$work/run"
+    # shellcheck disable=SC2016
+    printf '%s\n' 'mount -t tmpfs -o size=1m none "$1" && mkdir "$1/journal" || exit 99' \
+        'small=$1 copy=$2; shift 2; "$@"; status=$?; cp -r "$small/journal" "$copy" && exit $status' \
+        >"$work/on-small"
+    launch "$library" 1
+    build "$library" many-calls.c
+    # Who is root there may not write into folders of root.
+    command=(env TMPDIR="$work" OMPI_ALLOW_RUN_AS_ROOT=1 OMPI_ALLOW_RUN_AS_ROOT_CONFIRM=1 "${alone[@]}" \
+        sh "$work/on-small" "$work/small" "$work/run" "${command[@]}")
     record_into "$library" "$work/small/journal"
     touch -- "$work/run/.mpiwait-run"
-    cp -r -- "$work/small/journal" "$work/run/journal"
-    umount "$mounted"
-    mounted=''
     [[ $status == 0 ]] || fails "$name: the program ended with $status: $(cat -- "$work/errors")"
     compare "$name" "$programs/no-room.report" --again
+}
+
+# The same without a mount: the recorder is told that there is no room.
+try_denied_room() {
+    local library=$1
+    compile "mpicc.$library" -shared -fPIC -o "$work/full-disk.so" "$here/tries/full-disk.c" -ldl
+    prepare "$library" many-calls.c 1
+    LD_PRELOAD=$work/full-disk.so compare "$library: room on the disk is denied" \
+        "$programs/no-room.report" --window 0 "${command[@]}"
+}
+
+try_full_disk() {
+    try_denied_room "$1"
+    try_mounted_disk "$1"
 }
 
 try_no_folder() {

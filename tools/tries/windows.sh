@@ -32,11 +32,16 @@ expect_removed() {
 }
 
 # Where no window ends, the report says why. Each sum would be the end of one.
+try_way_without_cut() {
+    local library=$1 way=$2 why=$3
+    run_with --window 1 "${command[@]}" 100 "$way" 0
+    expect_windows "$library: windows.c $way" 0 0 "$why"
+}
+
 try_no_cut() {
     local library=$1 way why
     while read -r way why; do
-        run_with --window 1 "${command[@]}" 100 "$way" 0
-        expect_windows "$library: windows.c $way" 0 0 "$why"
+        try_way_without_cut "$library" "$way" "$why"
     done <<'END_OF_WAYS'
 under moments without a cut: messages were under way
 posted moments without a cut: messages were under way
@@ -231,13 +236,23 @@ try_windows_large() {
     try_many_communicators "$1"
 }
 
+try_free_windows() {
+    run_with --window 600 "${command[@]}" 400
+    expect_windows "$1: windows.c" 0 3 'verdict free'
+    expect_removed "$1: windows.c" 1
+}
+
+try_window_that_hangs() {
+    run_with --window 600 "${command[@]}" 400 head 150
+    expect_windows "$1: windows.c head" 1 2 '^tools/run: window [0-9]* of journal: verdict hang'
+    expect_removed "$1: windows.c head" 2
+}
+
 try_windows() {
     local library=$1
     knows_windows || { echo "$library: windows: passed over: the checker knows none"; return; }
     prepare "$library" windows.c 3
-    run_with --window 600 "${command[@]}" 400
-    expect_windows "$library: windows.c" 0 3 'verdict free'
-    expect_removed "$library: windows.c" 1
+    try_free_windows "$library"
     run_with --window 600 --keep "${command[@]}" 400
     expect_windows "$library: windows.c, --keep" 0 3 'verdict free'
     run_with --again
@@ -246,9 +261,7 @@ try_windows() {
     expect_windows "$library: windows.c orders" 0 3 'verdict free'
     run_with --window 600 --for 60 "${command[@]}" 400 uneven
     expect_windows "$library: windows.c uneven" 0 3 'verdict free'
-    run_with --window 600 "${command[@]}" 400 head 150
-    expect_windows "$library: windows.c head" 1 2 '^tools/run: window [0-9]* of journal: verdict hang'
-    expect_removed "$library: windows.c head" 2
+    try_window_that_hangs "$library"
     run_with --window 600 --quiet 3 --stop --for 300 "${command[@]}" 400 hang 300
     expect_windows "$library: windows.c hang" 1 2 'wait for ever.*; the run is ended'
     grep -q 'MPI_Irecv at .*windows[.]c:[0-9]' "$work/said" ||
