@@ -26,7 +26,7 @@ use Rattle.waitgraph.specs.declared.verdict.Verdict.{Verdict}
 use Rattle.waitgraph.proofs.AmongLemmas.{Among, among_range}
 use Rattle.waitgraph.proofs.StuckLemmas.{stuck_ranks_wait_for_stuck_ranks}
 use Rattle.report.specs.JsonReport.{each, cause_data, finding_data, rank_data}
-use Rattle.report.specs.Judged.{judged_data, judged_json, judged_of, judged_text, left_data, left_line, line_data}
+use Rattle.report.specs.Judged.{judged_data, judged_json, judged_of, judged_text, left_data, left_line, line_data, with_finding_calls, with_held}
 use Rattle.report.specs.PendingReport.{at_open_data, awaited_line, data_of_rank, has_lines, has_unmet, lines_of_rank, pending_data, pending_json, pending_of, pending_report, pending_text}
 use Rattle.report.specs.TextReport.{cause_line, finding_line, rank_lines, unmet_line, verdict_line, verdict_text}
 use Rattle.report.specs.declared.judged.Judged.{Judged}
@@ -121,11 +121,13 @@ module _ (reading : Reading) (groups : Groups) (recording : Lists) (closed : IsC
       ap (λ (ls : List ℕ). verdict_line verdict ++ ls ++ flat_map cause_line causes ++ flat_map finding_line judged.findings.now ++ flat_map left_line judged.left.now) all_lines
   plain_text Json verdict causes judged =
       ap (λ (ds : List Data). compact_text (object (member (codes "causes") (each cause_data causes)
+      (with_finding_calls judged.held
       (member (codes "findings") (each finding_data judged.findings.now)
+      (with_held judged.held
       (member (codes "left") (each left_data judged.left.now)
       (member (codes "lines") (each line_data judged.lines.now)
       (member (codes "ranks") (array (data_items ds))
-      (member (codes "verdict") (string (verdict_text verdict)) no_members))))))) ++ line_feed ∷ []) all_data
+      (member (codes "verdict") (string (verdict_text verdict)) no_members))))))))) ++ line_feed ∷ []) all_data
 
 -- ---- Calls that are named ----
 

@@ -1,5 +1,5 @@
 -- What a report says where it is asked which ranks are held, for a run that still goes on.
-use Rattle.std.specs.Prelude.{◌≡◌, Bool, Option, Some, None, List, map, ⊤, ⊥}
+use Rattle.std.specs.Prelude.{◌≡◌, Bool, Option, Some, None, List, map, ⊤}
 use Rattle.mpigroup.specs.Groups.{Groups}
 use Rattle.moves.specs.declared.reading.Reading.{Reading}
 use Rattle.callstore.specs.Recordings.{Lists}

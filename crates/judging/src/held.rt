@@ -94,6 +94,7 @@ fn calls_of(
 }
 
 /// Those of each finding.
+#[tactic(auto, using(crate::proofs::HeldLemmas::one_taken))]
 fn calls_of_all(
     alloc: Global,
     analyser: &Analyser,

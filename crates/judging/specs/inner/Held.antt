@@ -1,5 +1,5 @@
 -- Held ranks and the calls of findings, as they are kept.
-use Rattle.std.specs.Prelude.{◌≡◌, Bool, Option, Some, None, List, map, ⊤, ⊥}
+use Rattle.std.specs.Prelude.{◌≡◌, Bool, Option, Some, None, List, map, ⊤}
 use Rattle.mpigroup.specs.Groups.{Groups}
 use Rattle.moves.specs.declared.reading.Reading.{Reading}
 use Rattle.callstore.specs.Recordings.{Lists}

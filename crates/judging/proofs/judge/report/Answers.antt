@@ -36,10 +36,10 @@ returns-clause-written g c =
             subst (λ (fs : List Finding). IsLined (rows_of c.args.lists.now.table) c.args.manner at known c.args.graph.now.at_open fs c.as_slice-5.result.now) (c.as_slice.ensures.value ∙ sym c.as_slice-3.ensures.value)
             (subst (λ (ls : List LineAt). IsLined (rows_of c.args.lists.now.table) c.args.manner at known c.args.graph.now.at_open c.as_slice.result.now ls) (sym c.as_slice-5.ensures.value) c.in_ok-lines.ensures);
         held =
-            subst (λ (fs : List Finding). IsHeldSaid c.args.manner.reading at.groups at.recording known c.args.manner.held fs c.said_of.result) (c.as_slice-2.ensures.value ∙ sym c.as_slice-3.ensures.value)
-            (said_as_kept c.args.manner.reading at.groups at.recording known c.args.manner.held c.as_slice-2.result.now c.in_ok-held.held c.said_of.result
+            subst (λ (fs : List Finding). IsHeldSaid c.args.manner.reading at.groups at.recording known c.args.manner.held fs c.said_of-said.result) (c.as_slice-2.ensures.value ∙ sym c.as_slice-3.ensures.value)
+            (said_as_kept c.args.manner.reading at.groups at.recording known c.args.manner.held c.as_slice-2.result.now c.in_ok-held.held c.said_of-said.result
             (subst (λ (r : Reading). IsHeldKept r at.groups at.recording known c.args.manner.held c.as_slice-2.result.now c.in_ok-held.held) c.requires.reading c.in_ok-held.ensures)
-            c.said_of.ensures);
+            c.said_of-said.ensures);
       },
       of.2,
     ))
