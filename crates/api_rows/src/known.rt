@@ -152,7 +152,7 @@ impl Known {
     }
 
     /// Answers the report of the run with it.
-    pub fn tell(&self, answer: &mut Answer, run: &Analyser, format: Format) {
+    pub fn tell<'x>(&'x self, answer: &mut Answer, run: &'x Analyser, format: Format) {
         let Ok(graph) = Graph::of_pending(answer.alloc(), run, &self.pending, &self.sinks) else {
             answer.fail(Fault::Memory);
             return;

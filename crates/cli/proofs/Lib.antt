@@ -8,3 +8,4 @@ pub mod EndLemmas
 pub mod LintLemmas
 pub mod JournalLemmas
 pub mod FolderLemmas
+pub mod NamedLemmas
