@@ -16,7 +16,7 @@ HERE = Path(__file__).resolve().parent
 # The statuses of all tools. `mpiwait judge` has those up to UNFINISHED.
 Status = IntEnum("S", "FREE HANG REFUSED WORDS IMPOSSIBLE UNFINISHED NOT_JUDGED DIFFERENT FAILED", start=0)
 MOST = 12  # lines of one section, and parts of a list of ranks
-ORDER = "432167580"  # of several statuses the first of these is the script's
+ORDER = "432167850"  # of several statuses the first of these is the script's
 SIGNALS = (signal.SIGINT, signal.SIGTERM, signal.SIGHUP)
 ENDING = []  # the signal that ends the script: from then on no thread starts anything
 

@@ -5,7 +5,7 @@ import re
 from .causes import cause_lines, cause_sections, finding_lines
 from .journals import COLLECTIVES, STANDARD, STARTED_COLLECTIVES
 from .runs import Judgement, Run
-from .script import counted, grouped, plural, ranks_named, shortened
+from .script import Status, counted, grouped, plural, ranks_named, shortened
 
 MEANINGS = {
     "P": "Not recorded, and recorded calls may match these calls, so no verdict can be trusted",
@@ -29,6 +29,7 @@ THREADS = ("With MPI_THREAD_MULTIPLE another thread of a rank may call MPI while
 UNRECORDED = "Processes that weren't recorded, and of which no verdict speaks"
 UNCUT = "Why the recording wasn't cut where it could have been"
 NO_MEETING = "no rank called a barrier, or an allreduce, allgather or alltoall of data, of all ranks"
+FAILURES = "What failed"
 UNTIL_TESTS = "It hangs only if nothing else is done until a test succeeds"
 MANY = "made more than 1,000,000 calls"
 WHYS = {
@@ -56,6 +57,7 @@ class Story(Judgement):
         calls = [call for one in stuck for call in [*one.calls, *(call for _, call in one.needs)] if call]
         cut = [one for one in self.run.journals if one.last and not one.has_ended]
         sites = {(one.rank, one.polls[1] if one.polls else one.last.site) for one in cut}
+        calls += [one.call for one in self.failures]
         self.run.places.look_up(sites | {(call.rank, call.site) for call in calls})
         self.found = finding_lines(self.strict or self.shown) if self.shown else []
         self.sections = list(self._sections())
@@ -64,7 +66,9 @@ class Story(Judgement):
         self.text = "\n\n".join([self.title, *parts]) + "\n"
 
     def _title(self):
-        """The verdict in words; in doubt, that there is none."""
+        """The verdict in words; in doubt, that there is none; of a program that failed, what failed."""
+        if self.status == Status.FAILED:
+            return self._failed()
         words, doubts = getattr(self, f"_{self.verdict}")(), self.run.count("P")
         calls = plural(doubts, "call that wasn't", "calls that weren't")
         doubted = f"not judged: recorded calls may match {calls} recorded (without these: {words})"
@@ -79,6 +83,19 @@ class Story(Judgement):
         rank, line = map(int, found.groups()) if found else (0, 0)
         call = self.run.journals[rank].calls([line]).get(line) if line > 1 else None
         return f"{said}: {call.placed()}" if call and call.where else said or "no verdict"
+
+    def _failed(self):
+        """What failed; of a program that only ended with a status, how far its ranks came."""
+        if self.failures:
+            return f"failed: rank {self.failures[0].rank}: {self.failures[0].text()}"
+        ended = f"failed: the program ended with status {self.program_status}"
+        ends = {one.rank: one.last.word for one in self.run.journals if one.has_ended and one.last}
+        early = [rank for rank, word in ends.items() if word == "exit"]
+        if len(ends) < len(self.run.ranks):
+            return f"{ended}; {self._unfinished().removeprefix('unfinished: ').partition(';')[0]}"
+        if early:
+            return f"{ended}; {ranks_named(early)} ended without MPI_Finalize"
+        return f"{ended}, although every rank came to its MPI_Finalize"
 
     def _free(self):
         unsaid = self.run.count("W")
@@ -100,6 +117,9 @@ class Story(Judgement):
 
     def _sections(self):
         found, counts = {}, self.run.unrecorded.items()
+        failed = [f"rank {one.rank}: {one.text()}" for one in self.failures]
+        if failed[1:] and self.status == Status.FAILED:  # the title has the first one
+            yield FAILURES, shortened(failed)
         if self.shown:
             yield from self._causes()
             found = {"Findings, which change no verdict": self.found,
@@ -108,6 +128,7 @@ class Story(Judgement):
                      "Calls at which the judgement of a rank ends": self._stops(True),
                      "Receives of which it isn't known what they took": self._stops(False),
                      "Unanswered questions": [": ".join(one) for one in self.unanswered.items()]}  # fmt: skip
+        found[FAILURES] = failed if self.status != Status.FAILED else []
         found["Windows"] = list(self.windows.lines()) if self.windows else []
         found[UNCUT] = list(self._uncut())
         for meaning, title in MEANINGS.items():
@@ -183,6 +204,9 @@ class Story(Judgement):
 
     def _place_of(self, rank):
         journal, last = self.run.journals[rank], self.run.journals[rank].last
+        failed = [one for one in self.failures if one.rank == rank and one.kind == "error"]
+        if failed:
+            return f"ended in {failed[0].call.placed()}, which failed"
         within = self.run.within.get(rank, "computing or in a call that isn't recorded")
         now = f"; now {within}" if rank in self.run.within else ""
         if last is None:
@@ -216,6 +240,8 @@ class Story(Judgement):
         for rank, calls in view.left_calls.items():
             stuck = self.shown.stuck.get(rank)
             told = stuck.call.number if stuck and stuck.is_pending else None
+            failed = [one.call.site for one in self.failures if one.rank == rank]
+            calls = [one for one in calls if not (failed == [one.site] and view.whys[rank][one.number] == "failed")]
             for call in (call for call in calls if view.ends_list(call) == ends):
                 why = view.whys[rank][call.number]
                 if why in WHYS and (why, call.number) != ("never came back", told):
