@@ -109,6 +109,7 @@ def run_command(command, environment, limit=None, watch=None, at_end=lambda: Non
     Signals end the command and not this script, so that what was recorded is judged. `at_end' is called
     before it is ended."""
     seen, asked, began, child = [], [], time.monotonic(), None
+    variable = next((word for word in command if word.startswith("MPIWAIT_JOURNAL=")), "")
 
     def is_ending(what):
         if not seen:
@@ -133,10 +134,10 @@ def run_command(command, environment, limit=None, watch=None, at_end=lambda: Non
             if asked or watch and watch():
                 asked.clear()
                 is_ending(True)
-                end_tree(child.pid)
+                end_tree(child.pid, variable=variable)
     finally:
         if child and child.returncode is None:  # something failed
-            end_tree(child.pid)
+            end_tree(child.pid, variable=variable)
         for number, handler in before.items():
             signal.signal(number, handler or signal.SIG_DFL)
     return child.returncode if child.returncode >= 0 else 128 - child.returncode, bool(seen)
