@@ -11,7 +11,7 @@ from contextlib import suppress
 from functools import lru_cache
 from pathlib import Path
 
-from .journals import COUNTED, RECEIVES, STANDARD, Call, journals_in, top_of, unescaped, written
+from .journals import COUNTED, RECEIVES, STANDARD, Call, journals_in, mapped, top_of, unescaped, written
 from .places import Places, printable
 from .script import ENDING, HERE, Status, Stopped, worst
 
@@ -255,6 +255,9 @@ class Judge:
             raise Stopped(f"the checker {self.path} answered by status {done.returncode} without a report")
         status = done.returncode if done.returncode in (Status.REFUSED, Status.WORDS) else 4
         said = (done.stdout + (done.stderr or "")).strip()
+        empty = re.match(r"refused rank (\d+) line 1 J1 ", said)
+        if empty and not mapped(Path(folder) / f"journal{empty[1]}")[1]:  # the recorder made the file alone
+            return Answer(Status.IMPOSSIBLE, None, f"the disk had no room for the journal of rank {empty[1]}")
         return Answer(status, None, said or str(subprocess.CalledProcessError(done.returncode, self.path)))
 
 
