@@ -45,7 +45,7 @@ class FullDisk(Folders):
     def test_a_journal_without_room_is_no_refusal(self):
         self.run_of("finalize", "finalize")
         for text in (b"", b"\0" * 4096):
-            with self.subTest(text):
+            with self.subTest(len(text)):
                 self.write("journal/journal1", text)
                 story = self.judged(None, None)
                 self.assertEqual(story.status, Status.IMPOSSIBLE)
