@@ -52,7 +52,7 @@ class Statuses(Folders):
         self.again()
         self.assertEqual(self.judged(*BOTH, program_status=3).status, 1)
         self.again()
-        self.assertEqual(self.judged("barrier 0 @1", "barrier 0 @1", program_status=3).status, 5)
+        self.assertEqual(self.judged("barrier 0 @1", "barrier 0 @1", program_status=3).status, 8)
 
     def test_questions_that_fail(self):
         title = "Unanswered questions"
@@ -122,7 +122,7 @@ class Statuses(Folders):
         from companions.script import worst
 
         for statuses, wanted in (
-            ((0, 8, 5), 5),
+            ((0, 8, 5), 8),
             ((0, 5, 7), 7),
             ((7, 6), 6),
             ((6, 1), 1),

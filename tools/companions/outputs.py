@@ -16,7 +16,8 @@ from .script import Status, Stopped, grouped, ranks_named, why_of, worst
 
 RED, MOST_ARROWS = "#c0392b", 200
 RULES = {"hang": "A rank waits for ever", "may-hang": "A rank may wait for ever, by what MPI allows",
-         "different-calls": "Calls or roots of one collective differ", "failed": "A call of MPI failed"}  # fmt: skip
+         "different-calls": "Calls or roots of one collective differ",
+         "failed": "A call of MPI failed"}  # fmt: skip
 # The outcome of a test by its status.
 OUTCOMES = ("", "failure", "error", "error", "error", "skipped", "skipped", "failure", "failure")
 # Those of runs that aren't judged, and their level in SARIF.
@@ -64,7 +65,7 @@ def results(story):
     rule = "may-hang" if story.may_hang else "hang"
     found = [(rule, stuck_lines(one), one.call) for one in (story.stuck if hangs else [])]
     found += [("different-calls", [line], None) for line in story.found if line.startswith("different ")]
-    found += [("failed", [f"rank {one.rank}: {one.text()}"], one.call) for one in story.failures]
+    found += [("failed", [one.text()], one.call) for one in story.failures]
     for rule, lines, call in found:
         text = {"text": "\n".join(line.strip() for line in lines)}
         result = {"ruleId": rule, "level": "error" if rule in ("hang", "failed") else "warning", "message": text}

@@ -87,8 +87,8 @@ def lines_of(module, offsets):
 
 
 def functions_at(module: str, offsets: list[int]) -> dict[int, str]:
-    """The functions with these offsets in a module without lines, by the sizes of its symbols: addr2line names
-    the nearest symbol before them, which in a stripped module is that of another function."""
+    """The functions that contain these offsets, by the sizes of symbols. Without lines addr2line names the
+    nearest symbol before them, which in a stripped module is that of another function."""
     found = {}
     for more in ([], ["-D"]):
         words = ["nm", "-C", "-S", "--defined-only", *more, module]

@@ -104,7 +104,7 @@ def make_folder(folder):
 
 
 class Failures:
-    """What the recorder noted of calls that failed. If this script ends the run, only what failed before counts."""
+    """What the recorder noted of calls that failed. What fails after this script ended the run doesn't count."""
     def __init__(self, folder: Path) -> None:
         self.folder, self.before = folder, None
 

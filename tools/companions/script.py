@@ -96,9 +96,9 @@ def end_all(number: int, running: list[int], seconds: float) -> list[int]:
 
 
 def end_tree(root: int, without_root: bool = False, variable: str = "") -> None:
-    """Ends what was started on this machine. First the launcher, which ends the ranks here and on other machines:
-    it may crash if they end by themselves. What is still there after 2 seconds is ended too, as is each process
-    with some variable, NAME=VALUE."""
+    """Ends what was started on this machine. First the launcher, which ends the ranks, here and on other
+    machines: it may crash if they end by themselves. What is still there after 2 seconds is ended too, and
+    each process that has some variable, NAME=VALUE."""
     parents = {one: int(fields_of(one)[1] or 0) for one in processes()}
     tree = [root]
     for process in tree:  # which grows

@@ -241,7 +241,8 @@ class Story(Judgement):
             stuck = self.shown.stuck.get(rank)
             told = stuck.call.number if stuck and stuck.is_pending else None
             failed = [one.call.site for one in self.failures if one.rank == rank]
-            calls = [one for one in calls if not (failed == [one.site] and view.whys[rank][one.number] == "failed")]
+            whys = {one.number: view.whys[rank][one.number] for one in calls}
+            calls = [one for one in calls if (failed, whys[one.number]) != ([one.site], "failed")]
             for call in (call for call in calls if view.ends_list(call) == ends):
                 why = view.whys[rank][call.number]
                 if why in WHYS and (why, call.number) != ("never came back", told):
