@@ -81,6 +81,14 @@ const char *journal_open(const char *folder, const char *id, int rank, int ranks
 bool journal_begin_window(void);
 void journal_cut(void);
 
+/* Remembers this place, in case that the journal turns out to be cut here. Lines go to the next window's journal,
+ * which nobody sees yet, until `journal_go_on`. Then either this place is forgotten, or all lines since then move
+ * into that journal; the receives of these numbers go on there. */
+bool journal_remember(void);
+void journal_go_on(void);
+void journal_forget(void);
+void journal_cut_there(int count, const Field *moved);
+
 /* How many lines it has, those of earlier windows too. */
 unsigned long journal_lines(void);
 
