@@ -112,6 +112,36 @@ class Statuses(Folders):
         self.assertEqual(noted, [1])
 
 
+class Said(Folders):
+    """What is said of calls beside the verdict."""
+
+    RECEIVES = "recv 0 0 5 @7"
+
+    def test_a_buffered_send_with_another_tag_is_a_near_miss(self):
+        text = self.judged("bsend 0 1 3 @4 / finalize", self.RECEIVES, state="oi").text
+        self.assertIn("rank 0 sends to it in MPI_Bsend at /a.py:4, but with tag 3 and not 5", text)
+
+    def test_one_that_was_received_is_none(self):
+        for calls in ("recv 0 0 3 @6", "recv 0 any any @6 / =got 0 3", "irecv 1 0 0 3 @5 / wait 1 @6"):
+            with self.subTest(calls):
+                self.again()
+                calls = f"{calls} / {self.RECEIVES}"
+                text = self.judged("bsend 0 1 3 @4 / finalize", calls, state="oi").text
+                self.assertNotIn("MPI_Bsend", text)
+
+    def test_what_free_does_not_compare(self):
+        text = self.judged("finalize", "finalize").text
+        self.assertIn("Not compared: the operators, datatypes and counts of collectives", text)
+
+    def test_a_cause_that_names_a_send(self):
+        """Then it isn't said that no standard send is among these calls."""
+        calls = "recv 0 1 5 @7 / send 0 1 6 4 @8 / finalize", "recv 0 0 6 @9 / send 0 0 5 4 @10 / finalize"
+        text = self.judged(*calls).text
+        self.assertIn("until rank 1 comes to MPI_Send", text)
+        self.assertNotIn("no standard send is among", text)
+        self.assertIn("no rank waits until a standard send is received", text)
+
+
 class WithoutRank0(Folders):
     def test_a_run_that_ends_before_rank_0_begins(self):
         (self.folder / "journal").mkdir()

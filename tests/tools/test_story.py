@@ -527,7 +527,7 @@ class Strict(Folders):
 
     def test_only_some_ranks(self):
         said = self.sections("finalize", "finalize", after={0: " strict"})["What this assumes"]
-        self.assertEqual(said, ["Only rank 0 ran strictly, so this is reported as a run that wasn't strict."])
+        self.assertEqual(said[0], "Only rank 0 ran strictly, so this is reported as a run that wasn't strict.")
 
     def test_nonblocking_collectives(self):
         said = self.assumed("ibcast 1 0 0 @1 / wait 1 @2 / send 0 1 0 4 / finalize",

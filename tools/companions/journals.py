@@ -7,10 +7,11 @@ import mmap
 import os
 import re
 import resource
-from collections import namedtuple
+from collections import deque, namedtuple
 from contextlib import suppress
 from pathlib import Path
 
+MOST_BUFFERED = 1000  # buffered sends that are looked at
 BLOCK, TAIL = 1 << 20, 1 << 16  # bytes that are read at once: of lines by number, and of the last calls
 HEADER = re.compile(
     rb"journal 2 \d{1,4} (\d{1,4}) \S+ ([io]) .+?( strict)?( multiple)?(?: on (\S+))?"
@@ -35,6 +36,7 @@ BEFORE |= dict.fromkeys(["irecv", "mprobe", "improbe", "comm_idup"], 1)
 # The bytes of a standard send are its last field; three come before them, after those that differ.
 STANDARD_SEND = rb"\n(?:r?send|ir?send \d+|sendrecv \d+ \S+|isendrecv \d+ \d+ \d+ \S+)"
 SIZE = re.compile(STANDARD_SEND + rb"(?: \S+){3} (\d+)(?= @|\n)")
+BUFFERED = re.compile(rb"\n((?:bsend|ibsend \d+) [^\n]*)")
 COUNTED = re.compile(r"(?:([PWNw]) (\d{12}) )?(.*)", re.ASCII)  # of leftR; of other lines the text alone
 NAMES = {"exit": "the end of the process", "cut": "the end of the window",
          "comm_make": "a call that makes communicators", "full": "a call"}
@@ -124,6 +126,20 @@ class Journal:
     def sizes(self):
         """The bytes of its standard sends."""
         return {int(found[1]) for found in SIZE.finditer(self.data, 0, self.end)}
+
+    def buffered_sends(self) -> list:
+        """The calls by which it sends in buffered mode, of many the last ones."""
+        texts = deque((found[1] for found in BUFFERED.finditer(self.data, 0, self.end)), MOST_BUFFERED)
+        return [Call(self.run, self.rank, text.decode("latin-1")) for text in texts]
+
+    def may_take(self, comm: int, peer: int, tag: str) -> bool:
+        """Whether a receive or probe names a source and a tag, or got such a message. Of other communicators
+        than the world, each one is taken for the same."""
+        message, which = rb"%d %s" % (peer, tag.encode()), b"0" if comm == 0 else rb"\d+"
+        before = (rb"(?:recv|probe|(?:irecv|mprobe) \d+) %s" % which,
+                  rb"(?:sendrecv|isendrecv \d+ \d+) %s \S+ \S+" % which, rb"=got", rb"=done \d+")  # fmt: skip
+        form = re.compile(rb"\n(?:%s) %s[ \n]" % (b"|".join(before), message))
+        return form.search(self.data, 0, self.end) is not None
 
     def tail(self):
         """The last calls, as far as they are read at once."""

@@ -68,7 +68,8 @@ def results(story):
     found += [("failed", [one.text()], one.call) for one in story.failures]
     for rule, lines, call in found:
         text = {"text": "\n".join(line.strip() for line in lines)}
-        result = {"ruleId": rule, "level": "error" if rule in ("hang", "failed") else "warning", "message": text}
+        level = "error" if rule in ("hang", "failed") else "warning"
+        result = {"ruleId": rule, "level": level, "message": text}
         own = call and call.site and call.run.places.own(call.rank, call.site)
         if own and os.path.isabs(own.path):
             place = {"artifactLocation": {"uri": uri_of(own.path)}, "region": {"startLine": own.line}}

@@ -104,7 +104,7 @@ def make_folder(folder):
 
 
 class Failures:
-    """What the recorder noted of calls that failed. What fails after this script ended the run doesn't count."""
+    """What the recorder noted of calls that failed. What fails once this script ends it doesn't count."""
     def __init__(self, folder: Path) -> None:
         self.folder, self.before = folder, None
 

@@ -159,6 +159,8 @@ class View:
         self.left_calls = {rank: [found[rank][number] for number in whys] for rank, whys in self.whys.items()}
         self.stuck = {entry["rank"]: Stuck(self, entry) for entry in report["ranks"]}
         self.held = self.held_among(set(self.stuck))
+        self.buffered = lru_cache(None)(self._buffered)
+        self.may_have_taken = lru_cache(None)(self._may_have_taken)
         self.unreceived = {}  # the sends that nobody receives, with what they send, by both ranks
         for _, rank, at in (text.split(" ") for text in report["findings"] if text.startswith("unreceived ")):
             call = self.call(int(rank), int(at))
@@ -206,7 +208,22 @@ class View:
         lacking = stuck.lacking(other) if stuck and (other, None) in stuck.needs else []
         found = [(call, half) for half in lacking for call in stuck.calls if half in call.halves]
         found += self.unreceived.get((rank, other), [])
+        found += [(call, half) for call, half in self.buffered(rank).get(other, ())
+                  if not self.may_have_taken(other, rank, half.comm, half.tag)]  # fmt: skip
         return list(dict.fromkeys(found + (self.strict.offers(rank, other) if self.strict else [])))
+
+    def _buffered(self, rank: int) -> dict[int, list[tuple]]:
+        """What a rank sent in buffered mode, which waits for no receive: by the rank to which it was sent."""
+        found = {}
+        for call in self.run.journals[rank].buffered_sends():
+            for half in call.halves:
+                found.setdefault(half.rank, []).append((call, half))
+        return found
+
+    def _may_have_taken(self, rank: int, other: int, comm: int, tag: str) -> bool:
+        """Whether a call of a rank may have taken what another one sent to it."""
+        members = self.run.made(other, comm)[0]
+        return self.run.journals[rank].may_take(comm, members.index(other) if other in members else other, tag)
 
     def rests_on(self, words):
         """Whether ranks wait in such calls, or for what such calls started."""

@@ -22,6 +22,11 @@ COLLECTIVE = ("A collective call waits until every member calls it. MPI allows t
               "barrier and of those that need all data.")  # fmt: skip
 FREE = " If all messages are buffered, this run is free: tools/limits finds the size from which on it is."
 HANG = " No buffer would cure this: it hangs too if all messages are buffered."
+# The names of standard sends, and what is said if a cause names one that no rank waits for.
+STANDARD_NAMES = re.compile("MPI_(?:I?[Rr]?[Ss]end|I?[Ss]endrecv)\\b")
+NO_WAIT = "No buffer would cure this: no rank waits until a standard send is received."
+NOT_COMPARED = ("Not compared: the operators, datatypes and counts of collectives, their forms with and without "
+                "v, and the datatypes and counts of messages.")  # fmt: skip
 UNFORCED = ("{} on waits for nonblocking collectives ({}). A strict run can't force these to wait for all "
             "members: MPI lets those that don't need all data complete sooner.")  # fmt: skip
 THREADS = ("With MPI_THREAD_MULTIPLE another thread of a rank may call MPI while one waits: nothing is known "
@@ -121,7 +126,9 @@ class Story(Judgement):
         if failed[1:] and self.status == Status.FAILED:  # the title has the first one
             yield FAILURES, shortened(failed)
         if self.shown:
-            yield from self._causes()
+            causes = list(self._causes())
+            yield from causes
+            self.names_sends = any(STANDARD_NAMES.search(line) for _, lines in causes for line in lines)
             found = {"Findings, which change no verdict": self.found,
                      "Communicators": self._communicators(), "What this assumes": list(self._assumptions()),
                      "Where the ranks were that didn't come to MPI_Finalize": list(self._where()),
@@ -176,12 +183,16 @@ class Story(Judgement):
             size = "any size" if self.eager is None else f"more than {self.eager} bytes"
             cure = {"free": FREE, "hang": HANG}.get(self.verdicts().get("buffered"), "")
             yield SEND.format(size) + cure + (EAGER if self.eager is None else "")
+        elif self.verdict == "hang" and self.names_sends:
+            yield from [] if any(view.rests_on(STANDARD) for view in self.views.values()) else [NO_WAIT]
         elif self.verdict == "hang" and not self.shown.rests_on(STANDARD):
             yield "No buffer would cure this: no standard send is among these calls."
         if any(self.run.journals[one.rank].header.is_multiple for one in self.stuck):
             yield THREADS
         if self.shown.rests_on(COLLECTIVES - {"barrier"} | STARTED_COLLECTIVES):
             yield COLLECTIVE
+        if self.verdict == "free" and self.status == Status.FREE:
+            yield NOT_COMPARED
 
     def _unforced(self, view):
         """Causes of a strict run that need a nonblocking collective to wait for all its members."""

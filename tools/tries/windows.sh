@@ -157,7 +157,8 @@ try_late_cuts() {
     touch -- "$work/run/.mpiwait-run"
     status=0
     LD_PRELOAD="$here/record/out/$library/record.so:$work/late.so" MPIWAIT_WINDOW=600 \
-        MPIWAIT_JOURNAL="$work/run/journal" timeout 120 "${command[@]}" 400 >"$work/said" 2>"$work/errors" </dev/null ||
+        MPIWAIT_JOURNAL="$work/run/journal" \
+        timeout 120 "${command[@]}" 400 >"$work/said" 2>"$work/errors" </dev/null ||
         fails "$name: the program failed: $(cat -- "$work/errors")"
     run_with --again
     expect_windows "$name" 0 2 'verdict free'
