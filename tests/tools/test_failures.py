@@ -3,10 +3,12 @@
 import contextlib
 import io
 import os
+import subprocess
+import sys
 import unittest
 import xml.etree.ElementTree as XML
 
-from support import Folders, Stored, journal
+from support import TOOLS, Folders, Stored, journal
 from companions import outputs, run, watching
 from companions.script import Status, worst
 from companions.windows import stories_of
@@ -140,6 +142,15 @@ class Said(Folders):
         self.assertIn("until rank 1 comes to MPI_Send", text)
         self.assertNotIn("no standard send is among", text)
         self.assertIn("no rank waits until a standard send is received", text)
+
+
+class Counted(unittest.TestCase):
+    def test_partitioned_messages_meet_only_each_other(self):
+        """So their waits aren't judged, and a verdict on the other calls stays what it is."""
+        text = "int MPI_Psend_init(const void *data, int parts, MPI_Request *request);\n"
+        words = [sys.executable, TOOLS / "record/counted"]
+        said = subprocess.run(words, input=text, capture_output=True, text=True, check=True).stdout
+        self.assertIn("X(Psend_init, WAITS, ", said)
 
 
 class WithoutRank0(Folders):
