@@ -87,12 +87,14 @@ class Statuses(Folders):
         for calls, ended in (
             (("finalize", "finalize"), ", although every rank came to its MPI_Finalize"),
             (("finalize", "exit"), "; rank 1 ended without MPI_Finalize"),
+            (("finalize", "abort @7"), None),
             (("finalize", "send 0 null 0 4"), "; rank 1 cut off before MPI_Finalize"),
         ):
             with self.subTest(calls):
                 self.again()
                 story = self.judged(*calls, program_status=3)
                 wanted = f"failed: the program ended with status 3{ended}"
+                wanted = wanted if ended else "failed: rank 1 called MPI_Abort at /a.py:7"
                 self.assertEqual((story.status, story.title), (Status.FAILED, wanted))
 
     def test_what_fails_after_this_script_ended_the_run_does_not_count(self):

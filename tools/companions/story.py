@@ -93,6 +93,9 @@ class Story(Judgement):
         """What failed; of a program that only ended with a status, how far its ranks came."""
         if self.failures:
             return f"failed: rank {self.failures[0].rank}: {self.failures[0].text()}"
+        aborts = [one for one in self.run.journals if one.last and one.last.word == "abort"]
+        if aborts:
+            return f"failed: rank {aborts[0].rank} called {aborts[0].last.placed()}"
         ended = f"failed: the program ended with status {self.program_status}"
         ends = {one.rank: one.last.word for one in self.run.journals if one.has_ended and one.last}
         early = [rank for rank, word in ends.items() if word == "exit"]
