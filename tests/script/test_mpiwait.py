@@ -53,7 +53,7 @@ class Script(unittest.TestCase):
         shutil.copytree(TOP / "tools/texts", self.top / "tools/texts")
         for name in ("tools/companions", "release"):
             (self.top / name).mkdir()
-        for name in ("mpiwait", "HANDLES", "tools/companions/unproved.py", "release/prove"):
+        for name in ("mpiwait", "HANDLES", "tools/companions/unproved.py", "tools/companions/script.py", "release/prove"):
             shutil.copy(TOP / name, self.top / name)
         (self.top / "crates.txt").write_text("# crates\nmpicall: memchr\njournals may_wait=6: mpicall memchr\n"
                                              "mpiwait: journals\nmpiwait_rows: mpiwait\n")
@@ -225,6 +225,34 @@ class Script(unittest.TestCase):
         with patch.dict(os.environ, TMPDIR=str(kept)):
             self.assertEqual(self.run_script("--unproved", "run"), (4, "", "mpiwait: it was interrupted\n"))
         self.assertEqual(list(kept.iterdir()), [])
+
+    def begin(self, *words):
+        """Runs the script in a group of its own, until the command `rt` has begun."""
+        environment = {**os.environ, "PLAYED": str(self.folder), "PATH": f"{self.folder / 'bin'}:{os.environ['PATH']}"}
+        running = subprocess.Popen([self.top / "mpiwait", *words], cwd=self.here, env=environment, text=True,
+                                   stderr=subprocess.PIPE, stdin=subprocess.DEVNULL, start_new_session=True)
+        self.addCleanup(running.stderr.close)
+        while not (self.folder / "begun").exists():
+            time.sleep(0.05)
+        return running
+
+    def test_an_interrupted_answer_leaves_nothing_running(self):
+        """What rt starts is in a session of its own."""
+        (self.folder / "bin/rt").write_text(
+            '#!/bin/sh\nsetsid sleep 60 &\necho $! > "$PLAYED/child"; touch "$PLAYED/begun"; wait\n')
+        running = self.begin("--unproved", "run")
+        running.terminate()
+        self.assertEqual((running.wait(20), running.stderr.read()), (4, "mpiwait: it was interrupted\n"))
+        child = Path("/proc", (self.folder / "child").read_text().strip(), "stat")
+        self.assertTrue(not child.exists() or child.read_text().rpartition(")")[2].split()[0] in "ZX")
+
+    def test_a_build_that_is_ended_with_all_it_started_says_nothing_more(self):
+        (self.top / "release/prove").write_text('#!/bin/sh\ntouch "$PLAYED/begun"\nsleep 20\n')
+        running = self.begin("check", "head")
+        os.killpg(running.pid, signal.SIGTERM)
+        self.assertEqual(running.wait(20), 4)
+        said = running.stderr.read().splitlines()
+        self.assertEqual([line for line in said if not line.startswith("mpiwait: ")], [])
 
     def test_a_signal_while_python_starts(self):
         """It waits until modules are read: Python would end with a status of its own."""

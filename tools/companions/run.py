@@ -103,6 +103,22 @@ def make_folder(folder):
     return held
 
 
+class Failures:
+    """What the recorder noted of calls that failed. What fails once this script ends it doesn't count."""
+    def __init__(self, folder: Path) -> None:
+        self.folder, self.before = folder, None
+
+    def found(self) -> set[Path]:
+        return set(self.folder.glob("failed*")) | set(self.folder.glob("run-*/failed*"))
+
+    def note(self) -> None:
+        self.before = self.found()
+
+    def drop(self) -> None:
+        for path in self.found() - self.before if self.before is not None else ():
+            path.unlink(missing_ok=True)
+
+
 def main(argv):
     words, began, status, found = words_of(argv), time.monotonic(), 0, {}
     folder, program = Path(os.path.abspath(words.folder)), HERE.parent.parent / "crates/mpiwait/out/mpiwait"
@@ -119,7 +135,10 @@ def main(argv):
         judging = Judging(folder / "journal", Judge(nice=10), words.keep, words.eager)
         judging.thread.start() if words.window else None
         looks = [] if words.unproved else [judging.look, alarm.look]
-        status, was_ended = run_command(*run, words.limit, lambda: any([look() for look in looks]))
+        failures = Failures(folder / "journal")
+        watch = [words.limit, lambda: any([look() for look in looks]), failures.note]
+        status, was_ended = run_command(*run, *watch)
+        failures.drop()
         found = judging.end() if words.window else {}
         if status and not was_ended:
             say(f"the run ended with status {status}")

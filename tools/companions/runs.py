@@ -2,6 +2,7 @@
 
 import json
 import os
+import re
 import subprocess
 import sys
 import tempfile
@@ -12,7 +13,7 @@ from functools import cached_property, lru_cache
 from pathlib import Path
 
 from .differing import differences_of, held_by_them
-from .journals import COUNTED, RECEIVES, STANDARD, Call, Half, journals_in, top_of, written
+from .journals import COUNTED, RECEIVES, STANDARD, Call, Half, journals_in, mapped, top_of, unescaped, written
 from .places import Places, printable
 from .script import ENDING, HERE, Status, Stopped, worst
 
@@ -47,6 +48,8 @@ class Run:
         self.made, self._calls = lru_cache(None)(self._made), {}
         self.sent, self.received = lru_cache(None)(self._sent), lru_cache(None)(self._received)
         self.collectives = lru_cache(None)(lambda rank, comm: list(self.journals[rank].collectives_on(comm)))
+        self.failures = [Failure(self, rank, line) for rank in self.ranks
+                         for line in written(self.top / f"failed{rank}")]  # fmt: skip
 
     def count(self, meaning):
         """How many calls weren't recorded; with P they may match recorded ones."""
@@ -116,6 +119,33 @@ class Run:
     def world_rank(self, rank, comm, peer):
         members = () if peer in ("null", "any") else self.made(rank, comm)[0]
         return members[int(peer)] if members and 0 <= int(peer) < len(members) else None
+
+
+class Failure:
+    """What failed in a rank by an error of the program, as the recorder notes it: a call, and why."""
+    FORM = re.compile(r"(error|threads) (\d+) (\w+) (.*)", re.DOTALL)
+
+    def __init__(self, run: Run, rank: int, line: str) -> None:
+        self.kind, site, name, text = self.FORM.fullmatch(line).groups()
+        self.rank, self.call, self.note = rank, Call(run, rank, f"{name} @{site}"), unescaped(text)
+        found = re.search(r"\b(MPI_\w+)\(", self.note)  # where the library's own functions have no names
+        self.call.name = name if name != "MPI" else found[1] if found else "a call of MPI"
+        self.other = Call(run, rank, f"call @{text}") if self.kind == "threads" else None
+
+    def message(self) -> str:
+        """MPI's message in one line. MPICH's first line names the class, and the last one the detail."""
+        lines = [line for line in self.note.split("\n") if line]
+        first = lines[0].removesuffix(", error stack:") if lines else "no message"
+        last = re.sub(r"^\S*\(\w*\)[.]*: ", "", lines[-1]) if len(lines) > 1 else first
+        has_detail = last not in first and not last.endswith(") failed")
+        return printable(last if last.startswith(first) else f"{first} ({last})" if has_detail else first)
+
+    def text(self) -> str:
+        if self.kind == "error":
+            return f"{self.call.placed()} failed, and MPI ended the run: {self.message()}"
+        where = f" at {self.other.where}" if self.other.where else ""
+        return (f"{self.call.placed()} was called while another thread was in the call{where}, "
+                "which MPI allows with MPI_THREAD_MULTIPLE only")  # fmt: skip
 
 
 class Stuck:
@@ -272,6 +302,9 @@ class Judge:
             raise Stopped(f"the checker {self.path} answered by status {done.returncode} without a report")
         status = done.returncode if done.returncode in (Status.REFUSED, Status.WORDS) else 4
         said = (done.stdout + (done.stderr or "")).strip()
+        empty = re.match(r"refused rank (\d+) line 1 J1 ", said)
+        if empty and not mapped(Path(folder) / f"journal{empty[1]}")[1]:  # the recorder made the file alone
+            return Answer(Status.IMPOSSIBLE, None, f"the disk had no room for the journal of rank {empty[1]}")
         return Answer(status, None, said or str(subprocess.CalledProcessError(done.returncode, self.path)))
 
 
@@ -296,6 +329,9 @@ class Judgement:
     def __init__(self, judge, run, eager=None, is_short=False, program_status=0):
         self.judge, self.run, self.eager, self.is_short = judge, run, eager, is_short
         self.windows = run.windows
+        # What ended the run, in its last window: an error of the program, and its status.
+        self.failures = run.failures if run.folder == run.top or run.windows else []
+        self.program_status = program_status
         self.answers, self.views = {}, {}
         if not run.has_ended:
             self._ask("went", calls="went")
@@ -324,7 +360,7 @@ class Judgement:
         self.shown = self.went if self.went and not self.may_hang else self.rules
         self.verdict = self.shown.report["verdict"] if self.shown else None
         self.differences = differences_of(self.strict or self.shown, self.went)
-        self.program_status, self.status = program_status, self._status(program_status)
+        self.status = self._status()
 
     def _ask(self, name, **options):
         if not (self.is_short and self.answers):
@@ -339,11 +375,11 @@ class Judgement:
         """Whether a window wasn't judged that might hang, as far as is known."""
         return bool(self.windows and self.windows.unjudged() and self.verdict != "hang")
 
-    def _status(self, program_status):
+    def _status(self):
         """The status of the run, of all that was found of it."""
         found = [Status[self.verdict.upper()] if self.shown else self.main.status]
         if self.shown:
             found = [Status.NOT_JUDGED] if self.run.count("P") or self.misses_windows() else found
             found += [Status.DIFFERENT] if self.differences else []
             found += [Status.IMPOSSIBLE] if set(self.unanswered) - {"buffered"} else []
-        return worst(found + ([Status.FAILED] if program_status else []))
+        return worst(found + ([Status.FAILED] if self.program_status or self.failures else []))

@@ -16,6 +16,8 @@ try:
     import sys
     import tempfile
     from pathlib import Path
+
+    from script import end_tree
 except BaseException as why:  # Python's own status would be that of a hang
     try:
         put(2, f"mpiwait: it can't begin (it needs Python 3.10): {why!r}\n".encode())
@@ -101,6 +103,7 @@ def main(given):
 
 
 def interrupted(*_):
+    end_tree(os.getpid(), without_root=True)  # what `rt` started goes on without it
     raise OSError("it was interrupted")
 
 

@@ -133,13 +133,20 @@ def is_in_front():
     return len(fields) > 5 and fields[2] == fields[5]
 
 
-def run_command(command, environment, limit=None, watch=None):
+def run_command(command, environment, limit=None, watch=None, at_end=lambda: None):
     """Its status, and whether it was ended. `watch' is called now and then, and answers whether to end it.
-    Signals end the command and not this script, so that what was recorded is judged."""
+    Signals end the command and not this script, so that what was recorded is judged. `at_end' is called
+    before it is ended."""
     seen, asked, began, child = [], [], time.monotonic(), None
+    variable = next((word for word in command if word.startswith("MPIWAIT_JOURNAL=")), "")
+
+    def is_ending(what):
+        if not seen:
+            at_end()
+        seen.append(what)
 
     def end(number, _):
-        seen.append(number)
+        is_ending(number)
         asked.extend([] if number == signal.SIGINT and is_in_front() else [number])
 
     more = [signal.SIGHUP] if signal.getsignal(signal.SIGHUP) != signal.SIG_IGN else []  # nohup ignores it
@@ -155,11 +162,11 @@ def run_command(command, environment, limit=None, watch=None):
                 limit = asked.append(limit)  # once
             if asked or watch and watch():
                 asked.clear()
-                seen.append(True)
-                end_tree(child.pid)
+                is_ending(True)
+                end_tree(child.pid, variable=variable)
     finally:
         if child and child.returncode is None:  # something failed
-            end_tree(child.pid)
+            end_tree(child.pid, variable=variable)
         for number, handler in before.items():
             signal.signal(number, handler or signal.SIG_DFL)
     return child.returncode if child.returncode >= 0 else 128 - child.returncode, bool(seen)
