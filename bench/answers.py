@@ -1,12 +1,15 @@
-"""Asks a program, and bench/journals.py, what they make of the same journals: those in the folder J, and OUT,
+"""Asks a program, and the reference, what they make of the same journals: those in the folder J, and OUT,
 which `close` makes."""
 
 import json
 import os
 import shutil
 import subprocess
+import sys
+from pathlib import Path
 
-import journals
+sys.path.append(str(Path(__file__).resolve().parents[1]))
+from reference import journals  # noqa: E402
 
 MOST_SECONDS = 600  # that a program may take
 
@@ -36,7 +39,7 @@ def answers(program, words, folder, **variables):
 
 
 def wanted_answers(words, folder):
-    """The same of bench/journals.py, without a process of its own."""
+    """The same of the reference, without a process of its own."""
     asked = journals.words_of([str(folder / word) if word in ("J", "OUT") else word for word in words])
     try:
         recording = journals.Recording(asked)

@@ -1,11 +1,11 @@
-"""What bench/journals.py makes of journals that end with `cut', and how bench/cuts cuts runs into them."""
+"""What the reference makes of journals that end with `cut', and how bench/cuts cuts runs into them."""
 
 import random
 import unittest
 
 from support import TOP, Folders, journal, script
+from reference import journals as JOURNALS
 
-JOURNALS = script("journals.py", TOP / "bench")
 CUTS = script("cuts", TOP / "bench")
 
 # Runs whose cut is clean: what each rank calls, with `|' at the cut, and both windows' traces. A request that moves
@@ -159,11 +159,11 @@ class Cuts(Folders):
         self.assertEqual(self.traces(windows.first), ["irecv 0 0 null 0 / barrier 0 / finalize", "barrier 0 / finalize"])
         self.assertEqual(self.traces(windows.second, "judge"), ["irecv 0 0 null 0 / open", "barrier 0 / open"])
         for calls in ("strict", "went"):
-            wrong, what = CUTS.difference(CUTS.Asked(TOP / "bench/journals.py"), windows, ["--calls", calls])
+            wrong, what = CUTS.difference(CUTS.Asked(TOP / "reference/mpiwait"), windows, ["--calls", calls])
             self.assertEqual((wrong, what), ("", "free, then hang"))
 
     def asked(self, windows, calls):
-        return CUTS.difference(CUTS.Asked(TOP / "bench/journals.py"), windows, ["--calls", calls])
+        return CUTS.difference(CUTS.Asked(TOP / "reference/mpiwait"), windows, ["--calls", calls])
 
     def test_three_windows(self):
         """The receive goes on twice."""
@@ -188,7 +188,7 @@ class Cuts(Folders):
     def test_windows_that_say_something_else_are_found(self):
         run, places = self.whole(["send 0 1 0 / | / recv 0 1 1 / finalize", "recv 0 0 0 / | / finalize"])
         windows = CUTS.Windows(run, places, random.Random(1))
-        path, judge, words = windows.second / "journal0", TOP / "bench/journals.py", ["--calls", "strict"]
+        path, judge, words = windows.second / "journal0", TOP / "reference/mpiwait", ["--calls", "strict"]
         self.assertEqual(CUTS.difference(CUTS.Asked(judge), windows, words), ("", "free, then hang"))
         path.write_text(path.read_text().replace("recv 0 1 1\n", ""))
         wrong, _ = CUTS.difference(CUTS.Asked(judge), windows, words)

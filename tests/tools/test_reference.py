@@ -1,4 +1,4 @@
-"""What bench/journals.py makes of journals: the rows of crates/cli_rows of what `close' makes, and others."""
+"""What the reference makes of journals: the rows of crates/cli_rows of what `close' makes, and others."""
 
 import contextlib
 import io
@@ -9,8 +9,7 @@ import unittest
 from unittest import mock
 
 from support import TOP, Folders, closings, script
-
-JOURNALS = script("journals.py", TOP / "bench")
+from reference import journals as JOURNALS
 
 LEFT = {
     "recv 0 any 4": "never came back", "irecv 1 0 any 4": "never told", "abort": "aborted", "full": "full",

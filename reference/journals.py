@@ -1,4 +1,3 @@
-#!/usr/bin/env python3
 """What a run's journals stand for, by definition: a second program to compare `judge` and `close` with.
 
     journals.py judge [--as-closed] [--json [--held[=R,..]]] [--eager N] [--tests wait|pass] [--calls strict|went] FOLDER
@@ -27,10 +26,7 @@ from dataclasses import dataclass, field
 from functools import cache
 from pathlib import Path
 
-HERE = Path(__file__).resolve().parent
-sys.path.append(str(HERE))
-
-from journal_comms import (  # noqa: E402
+from .communicators import (
     COLLECTIVES,
     MAKERS,
     SENDS,
@@ -39,9 +35,11 @@ from journal_comms import (  # noqa: E402
     Communicators,
     spelled,
 )
-from journal_cuts import first_unclean  # noqa: E402
-from journal_faults import Fault, check, header_of, lines_of  # noqa: E402
-from wait_graph import Message, Pending, Waits  # noqa: E402
+from .cuts import first_unclean
+from .journal_faults import Fault, check, header_of, lines_of
+from .wait_graph import Message, Pending, Waits
+
+HERE = Path(__file__).resolve().parent
 
 MOST_LINES = 1_000_000  # of a trace
 MOST_REQUESTS = 64  # of a wait
