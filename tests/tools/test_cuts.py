@@ -4,7 +4,8 @@ import random
 import unittest
 
 from support import TOP, Folders, journal, script
-from reference import journals as JOURNALS
+from reference.command_line import recorded_by
+from reference.texts import Named
 
 CUTS = script("cuts", TOP / "bench")
 
@@ -130,8 +131,8 @@ class Cuts(Folders):
 
     def traces(self, folder, *words):
         try:
-            recording = JOURNALS.Recording(JOURNALS.words_of([*words, str(folder)] if words else ["close", str(folder), "OUT"]))
-        except JOURNALS.Named as named:
+            recording = recorded_by([*words, str(folder)] if words else ["close", str(folder), "OUT"])
+        except Named as named:
             return named.args[0]
         return [" / ".join(one.lines) for one in recording.lists]
 
@@ -205,7 +206,7 @@ class Cuts(Folders):
 
     def test_a_cut_of_some_ranks_alone(self):
         self.assertEqual(self.closed("barrier 0 / cut", "barrier 0 / finalize"), ["barrier 0 / open", "barrier 0 / finalize"])
-        recording = JOURNALS.Recording(JOURNALS.words_of(["judge", str(self.folder / "J")]))
+        recording = recorded_by(["judge", str(self.folder / "J")])
         self.assertEqual(recording.left(), [[0, 3, "cut"]])
 
     def test_a_wait_that_failed_completes_no_receive_that_goes_on(self):
@@ -218,21 +219,21 @@ class Cuts(Folders):
             with self.subTest(seed):
                 self.again()
                 CUTS.put_run(self.folder / "J", seed)
-                JOURNALS.Recording(JOURNALS.words_of(["judge", str(self.folder / "J")]))
+                recorded_by(["judge", str(self.folder / "J")])
 
     def test_a_request_of_a_window_is_no_finding(self):
         self.closed("ibarrier 1 0 / cut", "ibarrier 1 0 / cut")
-        recording = JOURNALS.Recording(JOURNALS.words_of(["judge", str(self.folder / "J")]))
+        recording = recorded_by(["judge", str(self.folder / "J")])
         self.assertTrue(recording.is_left_out("request 0 0 0"))
         self.closed("ibarrier 1 0 / finalize", "ibarrier 1 0 / finalize")
-        recording = JOURNALS.Recording(JOURNALS.words_of(["judge", str(self.folder / "J")]))
+        recording = recorded_by(["judge", str(self.folder / "J")])
         self.assertFalse(recording.is_left_out("request 0 0 0"))
 
     def test_tests_that_wait_for_nothing(self):
         ranks = ["isend 1 0 1 0 / test 1 / recv 0 1 0 / cut", "isend 1 0 0 0 / test 1 / recv 0 0 0 / cut"]
         self.closed(*ranks)
-        words = JOURNALS.words_of(["close", "--tests", "pass", str(self.folder / "J"), "OUT"])
-        self.assertEqual(JOURNALS.Recording(words).lists[0].lines,
+        recording = recorded_by(["close", "--tests", "pass", str(self.folder / "J"), "OUT"])
+        self.assertEqual(recording.lists[0].lines,
                          ["isend 0 0 1 0", "recv 0 1 0", "wait 0", "finalize"])  # fmt: skip
 
     def test_a_cut_that_is_not_clean_is_found(self):
