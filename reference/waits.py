@@ -2,11 +2,11 @@
 
 A rank whose trace ends with `open' may be in a call, its pending one: it waits for all or any of some items, which are
 messages and requests. A receive whose message isn't known is undetermined: its place and the message that it may take
-are known, and nothing waits for it. HeldAmong has who is held where calls of one wave that differ never complete, and
-only some ranks are asked.
+are known, and nothing waits for it.
 """
 
 from collections.abc import Iterable, Sequence
+from copy import copy
 from dataclasses import dataclass
 from functools import cached_property
 from typing import NamedTuple
@@ -85,9 +85,12 @@ class Waits(Matches):
         pending: Sequence[Pending | None],
         sinks: Sequence[dict[int, Message]],
         eager: int | None = None,
+        barred: Iterable[int] = (),
     ) -> None:
+        """The list of a rank that is barred ends with `open' in place of a call that never comes back."""
         super().__init__(groups, calls)
-        self.pending, self.sinks, self.eager = pending, sinks, eager
+        self.pending, self.sinks, self.eager, self.barred = pending, sinks, eager, set(barred)
+        self.asked = set(self.ranks)  # those that may be held; each other one may call anything
         self.ends = [one[-1].word for one in self.calls]
         self.stands = Positions(self, eager).stands
         self.stuck = [rank for rank in self.ranks if not self.is_at_end(rank)]
@@ -96,16 +99,12 @@ class Waits(Matches):
         self._find_held()
 
     def _find_held(self) -> None:
-        self.loose = self._grown(set())
-        waiting = {*self.stuck, *(rank for rank in self.ranks if self.is_at_pending(rank))}
-        self.held = sorted(waiting - self.loose)
-
-    def _grown(self, loose: set[int]) -> set[int]:
-        """These ranks, and all that others may let move on."""
-        self.loose = loose
+        """The loose ranks are the fewest that let each other move on."""
+        self.loose = set(self.ranks) - self.asked
         while more := {rank for rank in self.ranks if rank not in self.loose and self._is_loose(rank)}:
             self.loose |= more
-        return self.loose
+        waiting = {*self.stuck, *(rank for rank in self.ranks if self.is_at_pending(rank) or self.is_barred(rank))}
+        self.held = sorted(waiting - self.loose)
 
     # ---- Needs ----
 
@@ -158,12 +157,15 @@ class Waits(Matches):
     def is_at_pending(self, rank: int) -> bool:
         return self.is_at_end(rank) and self.ends[rank] == "open" and self.pending[rank] is not None
 
+    def is_barred(self, rank: int) -> bool:
+        return rank in self.barred and self.is_at_end(rank)
+
     # ---- What may come ----
 
     def _is_loose(self, rank: int) -> bool:
         if not self.is_at_end(rank):
             return all(map(self.may_come, self.unmet(rank)))
-        if self.ends[rank] != "open":
+        if self.ends[rank] != "open" or rank in self.barred:
             return False
         pending = self.pending[rank]
         if pending is None:
@@ -172,6 +174,8 @@ class Waits(Matches):
         return all(come) if pending.is_of_all else any(come)
 
     def may_come(self, need: Need) -> bool:
+        if need.rank not in self.asked:
+            return True
         rank, is_loose = need.rank, need.rank in self.loose
         if need.sent and need.call == LAST:
             comm, source, _, tag = need.sent
@@ -212,11 +216,12 @@ class Waits(Matches):
         return self._spare_for[rank, message]
 
     def senders(self, rank: int, message: Message) -> list[int]:
-        """The other members that a message may come from that have a spare send or an open list, rising."""
+        """The other members that a message may come from, rising: those with a spare send or an open list."""
         group = self.groups[message.comm]
         members = group if isinstance(message.source, str) else [group[message.source]]
         spare = {sender for sender, _ in self.spare_for(rank, message)}
-        return sorted(one for one in members if one != rank and (one in spare or self.ends[one] == "open"))
+        may_send = {one for one in members if one in spare or self.ends[one] == "open" or one not in self.asked}
+        return sorted(may_send - {rank})
 
     def held_senders(self, rank: int, message: Message) -> list[int]:
         held = set(self.held)
@@ -313,13 +318,19 @@ class Waits(Matches):
 
     def held_among(self, asked: Iterable[int]) -> list[int]:
         """The held ranks of those that are asked, where a wave that disagrees never completes."""
+        among = self._barred_where_waves_disagree() if self.disagreeing else copy(self)
+        among.asked = set(asked)
+        among._find_held()
+        return among.held
+
+    def _barred_where_waves_disagree(self) -> "Waits":
         cuts = [self._first_barred(rank) for rank in self.ranks]
         lengths = list(map(len, self.calls))
         calls = [one[:cut] + calls_of(["open"])[: cut < len(one)] for one, cut in zip(self.calls, cuts)]
         pending = [one if cut == length else None for one, cut, length in zip(self.pending, cuts, lengths)]
         sinks = [{at: one for at, one in mine.items() if at < cut} for mine, cut in zip(self.sinks, cuts)]
         barred = {rank for rank in self.ranks if cuts[rank] < lengths[rank]}
-        return HeldAmong(self.groups, calls, pending, sinks, self.eager, barred=barred, asked=set(asked)).held
+        return Waits(self.groups, calls, pending, sinks, self.eager, barred)
 
     def _first_barred(self, rank: int) -> int:
         """The place of the first call that waits for a wave that disagrees, or how long its list is."""
@@ -356,44 +367,6 @@ class Waits(Matches):
     def completed(self) -> set[Place]:
         """The ranks and places of the starts that a later call completes."""
         return {(rank, start) for (rank, _), starts in self.started.items() for start in starts}
-
-
-class HeldAmong(Waits):
-    """The same over lists of which those of the barred ranks end with `open' in place of a call that never comes back.
-    Only the asked ranks may be held; each other one may call anything."""
-
-    def __init__(
-        self,
-        groups: Sequence[Group],
-        calls: list[list[Call]],
-        pending: Sequence[Pending | None],
-        sinks: Sequence[dict[int, Message]],
-        eager: int | None,
-        barred: set[int],
-        asked: set[int],
-    ) -> None:
-        self.barred, self.asked = barred, asked
-        super().__init__(groups, calls, pending, sinks, eager)
-
-    def _find_held(self) -> None:
-        self.loose = self._grown({rank for rank in self.ranks if rank not in self.asked})
-        waiting = {*self.stuck, *filter(self._is_at_pending_or_barred, self.ranks)}
-        self.held = sorted(waiting - self.loose)
-
-    def _is_at_pending_or_barred(self, rank: int) -> bool:
-        return self.is_at_pending(rank) or self.is_at_end(rank) and rank in self.barred
-
-    def _is_loose(self, rank: int) -> bool:
-        return not (self.is_at_end(rank) and rank in self.barred) and super()._is_loose(rank)
-
-    def may_come(self, need: Need) -> bool:
-        return need.rank not in self.asked or super().may_come(need)
-
-    def senders(self, rank: int, message: Message) -> list[int]:
-        group = self.groups[message.comm]
-        members = group if isinstance(message.source, str) else [group[message.source]]
-        others = {one for one in members if one not in self.asked} - {rank}
-        return sorted(others.union(super().senders(rank, message)))
 
 
 def spelled_needs(needs: list[Need]) -> list[list[int | None]]:

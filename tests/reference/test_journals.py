@@ -1,12 +1,16 @@
 """What the reference makes of journals."""
 
+import contextlib
 import json
-import random
 import sys
+import tempfile
 import unittest
+from pathlib import Path
 
 from memory import TOP, Memory
 from reference.command_line import answer, recording_of
+from reference.disk import Disk
+from reference.texts import Named
 from reference.words import asked_by
 
 sys.path.append(str(TOP / "tests/tools"))
@@ -107,19 +111,17 @@ class Journals(unittest.TestCase):
                 self.assertEqual(self.held(*ranks, asked=asked), wanted)
 
     def test_who_is_held_where_no_calls_differ(self):
-        random_journals = script("random-journals", TOP / "bench")
-        for seed in range(60):
-            draw = random.Random(seed)
-            texts = random_journals.Together(draw, draw.choice((2, 3, 4))).texts(12)
-            files = {}
-            for rank, lines in enumerate(texts):
-                header = f"journal 2 {rank} {len(texts)} run i drawn at random"
-                lines = lines[: draw.randrange(1, len(lines) + 1)]
-                files[f"J/journal{rank}"] = "\n".join([header, *lines, ""]).encode()
-            with self.subTest(seed):
-                waits = recording_of(asked_by(["judge", "J"], False), Memory(files)).waits()
-                if not waits.disagreeing:
-                    self.assertEqual(waits.held_among(waits.ranks), waits.held)
+        runs, seen = script("held-journals", TOP / "bench"), 0
+        for seed in range(80):
+            with tempfile.TemporaryDirectory() as folder:
+                words = runs.put_runs(Path(folder), seed)
+                asked = asked_by(["judge", *words, f"{folder}/J"], False)
+                with self.subTest(seed), contextlib.suppress(Named):
+                    waits = recording_of(asked, Disk()).waits(asked.number("--eager"))
+                    if not waits.disagreeing:
+                        self.assertEqual(waits.held_among(waits.ranks), waits.held)
+                        seen += bool(waits.held)
+        self.assertGreater(seen, 5)
 
     def test_the_calls_of_findings(self):
         made = "comm_split 0 0 {} / =comm 2 1 0 / "
