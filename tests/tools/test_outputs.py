@@ -59,6 +59,13 @@ class JUnit(Folders):
         self.assertEqual(failure.get("message"), "verdict hang: 2 of 2 ranks wait")
         self.assertIn("rank 0 waits in MPI_Send at /a.py:7 to rank 1", failure.text)
 
+    def test_collectives_that_differ(self):
+        found = self.judged("gather 0 0 @1", "gather 0 1 @2")
+        failure = XML.fromstring(outputs.as_junit([found]).encode()).find("testcase/failure")
+        error = "error: the ranks disagree on the root of MPI_Gather on MPI_COMM_WORLD, and the run hung"
+        self.assertEqual((failure.get("message"), failure.get("type")), (error, "different"))
+        self.assertIn("rank 1: MPI_Gather at /a.py:2 with root 1", failure.text)
+
     def test_any_character(self):
         text = '\x01\x0b a <b> & "c" ]]> \udcff \ufffe'
         root = XML.fromstring(self.cases(1, title=text, text=text).encode())
@@ -102,7 +109,13 @@ class Sarif(Folders):
     def test_others(self):
         self.assertEqual(self.log("finalize"), [])
         found = self.log("bcast 0 0 @1 / finalize", "reduce 0 0 @2 / finalize")
-        self.assertEqual([one["ruleId"] for one in found], ["different-calls"])
+        self.assertEqual([(one["ruleId"], one["level"]) for one in found], [("different-calls", "error")])
+        self.assertEqual(found[0]["message"]["text"].split("\n")[:3], [
+            "error: the ranks call different collectives on MPI_COMM_WORLD", "the 1st collective on MPI_COMM_WORLD:",
+            "rank 0: MPI_Bcast at /a.py:1",
+        ])  # fmt: skip
+        place = found[0]["locations"][0]["physicalLocation"]
+        self.assertEqual((place["artifactLocation"]["uri"], place["region"]), ("file:///a.py", {"startLine": 1}))
 
     def test_any_byte_in_a_name(self):
         sites = b"".join(b"%d\t/a \\x09\xff#?\xc3\xa9.py:7\n" % line for line in (7, 8))

@@ -10,6 +10,7 @@ from unittest import mock
 from support import TOOLS, Folders, journal
 from companions import places
 from companions.causes import finding_lines, near_misses
+from companions.differing import difference_lines, disagreements
 from companions.journals import Call, Journal, journals_in, unescaped
 from companions.runs import Run, View
 
@@ -124,12 +125,16 @@ class Speed(Folders):
         self.run_of(*[f"{made} / {one} / finalize" for one in calls])
         report = {"causes": [], "ranks": [], "left": [], "verdict": "free",
                   "lines": [[rank, many + at, 2 * many + at + 2] for rank in (0, 1) for at in range(many)],
-                  "findings": [f"root {comm} 0 1 0 1" for comm in range(1, many + 1)]}  # fmt: skip
+                  "findings": [f"root {comm} 0 1 0 1" for comm in range(1, many + 1)],
+                  "finding_calls": [[[0, many + at], [1, many + at]] for at in range(many)]}  # fmt: skip
+        for rank in (0, 1):
+            self.write(f"journal/sites{rank}", "1\t/a.py:1\n3\t/a.py:3\n")
         began = time.process_time()
-        lines = finding_lines(View(Run(self.folder / "journal"), report))
+        lines = difference_lines(disagreements(View(Run(self.folder / "journal"), report)))
         self.assertLess(time.process_time() - began, 4)  # half a second on a machine without other work
-        self.assertEqual(len(lines), 1)
-        self.assertTrue(lines[0].endswith(" with root 1 (4,094 more alike)"), lines)
+        self.assertEqual(lines, ["the 1st collective on the communicator of /a.py:3 (4,094 more alike):",
+                                 "    rank 0: MPI_Bcast at /a.py:1 with root 0", "    rank 1: MPI_Bcast at /a.py:1 with root 1",
+                                 "MPI requires the same root on all ranks."])  # fmt: skip
 
     def test_many_sends_that_nobody_receives_and_many_ranks_that_wait(self):
         ranks, many = 1000, 100_000

@@ -510,6 +510,40 @@ class Alarms(Folders):
         )
         self.assertIn("rank 0 waits in MPI_Recv", self.said.getvalue())
 
+    def test_collectives_that_differ(self):
+        """Whatever the ranks do before, each of these hangs, and is ended."""
+        order = "error: the ranks call collectives in a different order on MPI_COMM_WORLD"
+        for ranks, held, error in (
+            (("bcast 0 0 @1 / barrier 0 @2", "barrier 0 @3", "barrier 0 @3"), "ranks 0 to 2", order),
+            (("gather 0 0 @1", "gather 0 1 @1"), "ranks 0 and 1", "error: the ranks disagree on the root of MPI_Gather"),
+            (("ibarrier 1 0 @1 / wait 1 @2", "iscan 1 0 @1 / wait 1 @2"), "ranks 0 and 1", order),
+            (("barrier 0 @1", "ibarrier 1 0 @1 / wait 1 @2"), "ranks 0 and 1", "error: the ranks match MPI_Barrier with"),
+        ):  # fmt: skip
+            with self.subTest(ranks):
+                self.again()
+                self.assertLessEqual(self.answers(self.alarm(*ranks)), 12)
+                said = self.said.getvalue()
+                self.assertIn(f"{held} wait for ever, whatever the other ranks do; the run is ended:\n  {error}", said)
+
+    def test_collectives_that_may_still_match(self):
+        for ranks, state, is_held in (
+            (("barrier 0 @1", "barrier 0 @1"), "ii", False), (("barrier 0 @1", "ibarrier 1 0 @1"), "io", False),
+            (("barrier 0 @1", "recv 0 null 0 @2"), "ii", False), (("barrier 0 @1", "bcast 0 0 @2"), "io", True),
+        ):  # fmt: skip
+            with self.subTest(ranks):
+                self.again()
+                ended = self.answers(self.alarm(*ranks, state=state))
+                self.assertEqual(ended is not None, is_held)
+
+    def test_a_checker_that_does_not_know_the_question(self):
+        alarm = self.alarm(*self.HANG)
+        run = alarm.judge.run
+        said = subprocess.CompletedProcess([], 3, "", "error: unexpected argument '--held' found")
+        alarm.judge.run = lambda words, folder: said if any("--held" in word for word in words) else run(words, folder)
+        self.assertIsNone(self.answers(alarm))
+        wanted = "nothing is reported before the run ends: this needs a newer checker than "
+        self.assertEqual(self.said.getvalue().count(wanted), 1)
+
     def test_a_hang_and_a_call_that_is_only_counted(self):
         """Of a rank in such a call nothing is reported, and the others are."""
         alarm = self.alarm(*self.HANG, "send 0 null 0 4 @3 / barrier 1 @4", state="iio")

@@ -1,6 +1,7 @@
 """What is said of a run: titles, statuses, causes and where the ranks were."""
 
 import json
+import subprocess
 import unittest
 from unittest import mock
 
@@ -41,7 +42,8 @@ class Statuses(Folders):
         for status, ranks in (
             (0, FREE), (1, BOTH), (2, ("wait 3 / finalize",)), (5, ("barrier 0 @1", "barrier 0 @1")),
             (7, ("bcast 0 0 @1 / finalize", "reduce 0 0 @2 / finalize")),
-            (7, ("bcast 0 0 @1 / finalize", "bcast 0 1 @2 / finalize")),
+            (7, ("bcast 0 0 @1 / finalize", "bcast 0 1 @2 / finalize")), (7, ("bcast 0 0 @1", "barrier 0 @2")),
+            (1, ("bcast 0 0 @1 / recv 0 1 3 @2", "barrier 0 @2 / recv 0 0 3 @3")),
         ):  # fmt: skip
             with self.subTest(ranks):
                 self.assertEqual(self.judged(*ranks).status, status)
@@ -105,7 +107,7 @@ class Statuses(Folders):
                 self.assertEqual((status, title[:45]), (6, "not judged: recorded calls may match 1 call t"))
 
     def test_what_is_asked(self):
-        """Nothing but `judge --json', by the journals alone, as few times as may be."""
+        """Nothing but `judge --json --held', by the journals alone, as few times as may be."""
         for ranks, state, asked in (
             (FREE, "i", [set()]), (BOTH, "i", [set(), {"--eager=2147483647"}]),
             (TESTED, "i", [set(), {"--tests=pass"}, {"--eager=2147483647"}]),
@@ -115,7 +117,7 @@ class Statuses(Folders):
                 self.again()
                 self.judged(*ranks, state=state)
                 commands = [call.args[1] for call in run.call_args_list]
-                self.assertEqual([set(words[3:-1]) for words in commands], asked)
+                self.assertEqual([set(words[3:-1]) for words in commands], [{"--held", *words} for words in asked])
                 self.assertTrue(all([words[1:3], words[-1]] == [["judge", "--json"], "."] for words in commands))
 
     def test_several_runs(self):
@@ -175,6 +177,40 @@ class Causes(Folders):
         )
         self.assertEqual(said, [wanted])
 
+    WRONG_TAG = ("recv 0 1 8 @9", *["send 0 0 7 4 @23 / bcast 0 0 @24"] * 3)
+
+    def test_a_wrong_tag_comes_before_the_cycle_that_it_leads_to(self):
+        sections = self.sections(*self.WRONG_TAG)
+        self.assertEqual(sections["It hung here"], [
+            "rank 0 waits in MPI_Recv at /a.py:9 from rank 1 with tag 8, for a send that rank 1 hasn't made so far",
+            "    rank 1 sends to it in MPI_Send at /a.py:23, but with tag 7 and not 8",
+        ])  # fmt: skip
+        self.assertEqual([line[:12] for line in sections["Who else waits"]], ["ranks 1 to 3"])
+
+    def test_nothing_is_said_twice(self):
+        """What may hang too isn't what hung, nor what leads to that; and those who wait are said once to be there."""
+        found = self.judged(*self.WRONG_TAG)
+        self.assertFalse([name for name, _ in found.sections if name.startswith("It may hang here")])
+        self.assertNotIn(WHERE, dict(found.sections))
+        self.assertEqual(found.text.count("a.py:9"), 1)
+
+    def test_a_missing_call_comes_before_a_cycle(self):
+        """Rank 0 needs a call that rank 3 never makes, and is in a cycle too."""
+        ranks = ("irecv 1 0 3 5 @1 / issend 2 0 1 6 @2 / wait 1 2 @3 / recv 0 1 7 / finalize",
+                 "ssend 0 0 7 @4 / recv 0 0 6 @5 / finalize", "ssend 0 0 7 @6 / finalize", "finalize")  # fmt: skip
+        said = self.cause(*ranks)
+        self.assertTrue(said[0].startswith("rank 0 waits in MPI_Waitall at /a.py:3, until rank 1 comes"), said)
+        self.assertEqual(said[1], "    and for a send that rank 3 never makes")
+        self.assertIn("ranks 0 and 1 wait for each other too:", said)
+        self.assertEqual(sum("MPI_Waitall" in line for line in said), 1)
+
+    def test_the_cause_that_blocks_most_ranks_comes_first(self):
+        pair = [f"recv 0 {1 - rank} 5 @1 / finalize" for rank in (0, 1)]
+        others = [f"recv 0 {2 if rank > 2 else 5} 6 @2 / finalize" for rank in range(2, 6)]
+        said = self.cause(*pair, *others)
+        self.assertEqual([line.partition(" waits in ")[0].partition(" wait in ")[0] for line in said],
+                         ["rank 2", "ranks 3 to 5", "rank 0", "rank 1"])  # fmt: skip
+
     def test_no_line_of_code(self):
         said = self.cause("barrier 0 / recv 0 1 0 / finalize", "barrier 0 / finalize")
         self.assertTrue(said[0].startswith("rank 0 waits in MPI_Recv (line 3 of journal0) from rank 1"), said)
@@ -182,7 +218,7 @@ class Causes(Folders):
     def test_that_no_buffer_would_cure(self):
         assumes = "What this assumes"
         said = self.cause("recv 0 1 0 @7 / finalize", "recv 0 0 0 @7 / finalize", title=assumes)
-        self.assertEqual(said, ["No buffer would cure this: no standard send is among these calls."])
+        self.assertEqual(said, ["No buffer would cure this: none of these ranks waits in a standard send."])
         said = self.cause("send 0 1 0 4 @7 / recv 0 1 1 @8 / finalize", "send 0 0 0 4 @7 / recv 0 0 1 @8 / finalize",
                           title=assumes)  # fmt: skip
         self.assertIn("No buffer would cure this: it hangs too if all messages are buffered.", said[0])
@@ -240,6 +276,16 @@ class NearMisses(Folders):
                 with self.subTest(name, receives=receives):
                     self.assertIn(wanted.format(name), self.miss(f"{receives} / barrier 0 / finalize", sends))
 
+    def test_tags_of_buffered_sends_in_runs_that_were_cut_off(self):
+        """They came back, and nothing is found of what a rank doesn't receive that may receive more."""
+        received = "recv 0 1 9 @6 / recv 0 any 9 @6 / =got 1 9 / irecv 1 0 any any @6 / wait 1 @6 / =done 1 1 9"
+        for send, name in (("bsend 0 0 9 @8", "Bsend"), ("isend 1 0 0 9 4 @8", "Isend"), ("ibsend 1 0 0 9 @8", "Ibsend")):
+            with self.subTest(name):
+                said = self.miss("recv 0 1 5 @7", f"{send} / barrier 0 @9")
+                self.assertEqual(said, [f"rank 1 sends to it in MPI_{name} at /a.py:8, but with tag 9 and not 5"])
+                three = " / ".join(send.replace("send 1", f"send {number}") for number in (1, 2, 3))
+                self.assertEqual(self.miss(f"{received} / recv 0 1 5 @7", f"{three} / barrier 0 @9"), [])
+
     def test_sendrecv(self):
         said = self.miss("sendrecv 0 1 3 1 4 4 @7 / finalize", "sendrecv 0 0 3 0 3 4 @8 / finalize")
         self.assertEqual(said, ["rank 1 sends to it in MPI_Sendrecv at /a.py:8, but with tag 3 and not 4",
@@ -259,6 +305,48 @@ class NearMisses(Folders):
         said = self.miss(f"{made} / recv 0 1 5 @7 / finalize", f"{made} / ssend 2 0 5 @8 / finalize")
         self.assertIn("rank 1 sends to it in MPI_Ssend at /a.py:8, but on the communicator of /a.py:3 and not on "
                       "MPI_COMM_WORLD", said)  # fmt: skip
+
+
+class Wildcards(Folders):
+    """A hang that rests on the messages that receives with wildcards got in this run says so."""
+
+    HANG, DOUBT = "verdict hang: ", "verdict hang, if wildcards match as in this run: "
+    SENDERS = ("send 0 0 3 4 @2 / recv 0 2 3 @3 / finalize", "send 0 1 3 4 @4 / send 0 0 3 4 @5 / finalize")
+    BOTH = "recv 0 any 3 @1 / =got 2 3 / recv 0 any 3 @1 / =got 1 3 / finalize"
+
+    def check(self, wanted, *ranks, **words):
+        self.again()
+        found = self.judged(*ranks, **words)
+        self.assertEqual((found.status, found.title), (1, f"{wanted}{len(found.stuck)} of {len(ranks)} ranks wait"))
+        said = [line for line in dict(found.sections).get("What this assumes", []) if "has a wildcard" in line]
+        self.assertEqual(bool(said), wanted == self.DOUBT)
+        return said
+
+    def test_a_rank_in_a_receive(self):
+        said = self.check(self.DOUBT, self.BOTH, *self.SENDERS)
+        self.assertTrue(said[0].startswith("rank 0: MPI_Recv at /a.py:1 has a wildcard, and the verdict takes"), said)
+        self.assertIn("--strict decides", said[0])
+
+    def test_a_probe_and_a_receive_of_any_tag(self):
+        self.check(self.DOUBT, f"probe 0 any 3 @1 / =got 2 3 / {self.BOTH}", *self.SENDERS)
+        self.check(self.DOUBT, self.BOTH.replace("0 any 3 @1 / =got 2", "0 2 any @1 / =got 2"), *self.SENDERS)
+
+    def test_a_receive_that_was_begun(self):
+        started = "irecv 1 0 any 3 @1 / {}wait 1 @6 / =done 1 2 3 / recv 0 1 3 @7 / finalize"
+        self.check(self.DOUBT, started.format(""), *self.SENDERS)
+        self.check(self.DOUBT, started.format("recv 0 1 3 @8 / ").replace("/ recv 0 1 3 @7 ", ""),
+                   "recv 0 2 3 @3 / send 0 0 3 4 @2 / finalize", "ssend 0 0 9 @9 / send 0 0 3 4 @5 / finalize")  # fmt: skip
+
+    def test_a_receive_whose_message_was_sent(self):
+        """Its sender is past that send, and has no other one: what holds the ranks is something else."""
+        started = "irecv 1 0 any 3 @1 / ssend 0 1 9 @2 / wait 1 @3 / =done 1 1 3 / finalize"
+        self.check(self.HANG, started, "isend 1 0 0 3 4 @4 / ssend 0 0 9 @5 / wait 1 @6 / finalize")
+        self.check(self.DOUBT, started, "ssend 0 0 9 @5 / send 0 0 3 4 @4 / finalize")
+        self.check(self.HANG, started, "ssend 0 0 9 @5 / send 0 0 4 4 @4 / finalize")
+
+    def test_a_strict_run_and_a_run_that_hung(self):
+        self.check(self.HANG, self.BOTH, *self.SENDERS, after=dict.fromkeys(range(3), " strict"))
+        self.check(self.HANG, "recv 0 any 3 @1 / =got 1 3 / recv 0 1 5 @2", "send 0 0 3 4 @3 / recv 0 0 5 @4")
 
 
 class CutOff(Folders):
@@ -322,7 +410,8 @@ class CutOff(Folders):
         self.run_of(*ranks, **words)
         for rank, text in left.items():
             self.write(f"journal/left{rank}", text)
-        return self.sections(*ranks, **words)[WHERE]
+        sections = self.sections(*ranks, **words)
+        return sections.get(WHERE) or sections[WHERE.replace("the ranks", "the other ranks")]
 
     def test_where_ranks_were(self):
         self.assertEqual(
@@ -334,7 +423,6 @@ class CutOff(Folders):
                 "rank 4: made more than 1,000,000 calls; those after them aren't judged",
                 "rank 5: MPI_Send at /a.py:1, and recorded no further: the disk is full",
                 "rank 6: never came through MPI_Init",
-                "ranks 7 and 8: inside MPI_Barrier at /a.py:1",
                 "rank 9: back from MPI_Barrier at /a.py:1, and computing or in a call that isn't recorded",
             ],
         )
@@ -349,7 +437,6 @@ class CutOff(Folders):
             [
                 "rank 4: made more than 1,000,000 calls; those after them aren't judged; now in MPI_File_read_all, "
                 "which isn't recorded",
-                "ranks 7 and 8: inside MPI_Barrier at /a.py:1",
                 "rank 9: back from MPI_Barrier at /a.py:1, and in MPI_Win_wait, which isn't recorded",
             ],
         )
@@ -387,6 +474,11 @@ class CutOff(Folders):
                 "complete: MPI_Irecv at /a.py:4 from rank 0 with tag 5; before that MPI_Barrier at /a.py:9",
             ],
         )
+
+    def test_a_rank_that_asks_for_the_status_of_a_request(self):
+        said = self.where({}, "irecv 1 0 1 5 @4", "barrier 0 @9", state="oi", after={0: self.POLLS[2].replace(" 01 ", " 07 ")})
+        wanted = "rank 0: asked again and again: MPI_Request_get_status at /a.py:2 (7 times, found nothing); started and not"
+        self.assertTrue(said[0].startswith(wanted), said)
 
     def test_where_the_judgement_ends(self):
         calls = "irecv 1 0 any 3 @1 / barrier 0 / finalize"
@@ -481,28 +573,135 @@ class Tested(Folders):
         self.assertIn("MPI_Recv at /a.py:9", "\n".join(dict(found.sections)["The causes"]))
 
 
-class Findings(Folders):
-    def test_each_kind(self):
-        first = "bcast 0 0 @1 / bsend 0 1 4 @2 / irecv 1 0 1 5 @3 / finalize"
-        self.assertEqual(
-            self.sections(first, "barrier 0 @4 / finalize")["Findings, which change no verdict"],
-            [
-                "different calls meet on MPI_COMM_WORLD: rank 0's MPI_Bcast at /a.py:1 and rank 1's MPI_Barrier at "
-                "/a.py:4",
-                "nobody receives what rank 0 sends in MPI_Bsend at /a.py:2 to rank 1 with tag 4",
-                "rank 0 never waits for what it starts in MPI_Irecv at /a.py:3",
-            ],
-        )
+class Differing(Folders):
+    """Ranks that disagree on a collective call: that is the title, whatever the run did."""
 
-    def test_roots_on_another_communicator(self):
+    def said(self, *ranks, **words):
+        self.again()
+        found = self.judged(*ranks, **words)
+        return found.title, *(lines for name, lines in found.sections[:2])
+
+    def test_another_order_in_a_run_that_completed(self):
+        title, calls, did = self.said("bcast 0 0 @1 / barrier 0 @2 / finalize",
+                                      *["barrier 0 @4 / bcast 0 0 @5 / finalize"] * 3)  # fmt: skip
+        error = "error: the ranks call collectives in a different order on MPI_COMM_WORLD"
+        self.assertEqual(title, error + "; this run completed, but only because the MPI library let it")
+        self.assertEqual(calls, [
+            "the 1st collective on MPI_COMM_WORLD:", "    rank 0: MPI_Bcast at /a.py:1",
+            "    ranks 1 to 3: MPI_Barrier at /a.py:4", "the 2nd collective on MPI_COMM_WORLD:",
+            "    rank 0: MPI_Barrier at /a.py:2", "    ranks 1 to 3: MPI_Bcast at /a.py:5",
+            "MPI requires that all ranks of a communicator call its collectives in the same order.",
+        ])  # fmt: skip
+        self.assertTrue(did[0].startswith("Every rank reached MPI_Finalize, but only because this MPI library let"))
+
+    def test_other_calls(self):
+        title = self.said("bcast 0 0 @1 / finalize", "barrier 0 @4 / finalize")[0]
+        self.assertTrue(title.startswith("error: the ranks call different collectives on MPI_COMM_WORLD; this run"), title)
+
+    def test_another_root_in_a_run_that_hung(self):
+        gather = ["gather 0 0 @11", "gather 0 0 @11 / barrier 0 @12", "gather 0 0 @11", "gather 0 3 @11"]
+        title, calls, did = self.said(*gather)
+        self.assertEqual(title, "error: the ranks disagree on the root of MPI_Gather on MPI_COMM_WORLD, and the run hung")
+        self.assertEqual(calls, [
+            "the 1st collective on MPI_COMM_WORLD:", "    ranks 0 to 2: MPI_Gather at /a.py:11 with root 0",
+            "    rank 3: MPI_Gather at /a.py:11 with root 3", "MPI requires the same root on all ranks.",
+        ])  # fmt: skip
+        self.assertEqual(did, ["The run hung: ranks 0 to 3 can never continue.",
+                               "ranks 0, 2 and 3: inside MPI_Gather at /a.py:11", "rank 1: inside MPI_Barrier at /a.py:12"])  # fmt: skip
+        self.assertNotIn("Where the ranks were", self.judged(*gather).text)
+
+    def test_nonblocking_calls(self):
+        title, calls, _ = self.said("ibarrier 1 0 @1 / wait 1 @2", "iallreduce 1 0 @3 / wait 1 @4")
+        self.assertEqual(title, "error: the ranks call collectives in a different order on MPI_COMM_WORLD, and the run hung")
+        self.assertEqual(calls[1:3], ["    rank 0: MPI_Ibarrier at /a.py:1", "    rank 1: MPI_Iallreduce at /a.py:3"])
+        title = self.said("barrier 0 @1", "ibarrier 1 0 @3 / wait 1 @4")[0]
+        self.assertEqual(title, "error: the ranks match MPI_Barrier with MPI_Ibarrier on MPI_COMM_WORLD, and the run hung")
+
+    def test_runs_that_failed_or_were_interrupted(self):
+        order = "error: the ranks call collectives in a different order on MPI_COMM_WORLD"
+        title, _, did = self.said("bcast 0 0 @1", "barrier 0 @2", program_status=14)
+        self.assertEqual((title, did[0]), (order + ", and the run failed", "The run ended with status 14."))
+        title, _, did = self.said("bcast 0 0 @1", "barrier 0 @2", state="o")
+        self.assertEqual(title, order + ", and the run was interrupted")
+        self.assertTrue(did[0].startswith("The run was interrupted."))
+
+    def test_another_communicator(self):
         made = "=comm 2 2 1"
         ranks = ["comm_split 0 undefined 0 @1 / =none / finalize", f"comm_split 0 0 1 @1 / {made} / bcast 2 1 @4 / finalize",
                  f"comm_split 0 0 0 @1 / {made} / bcast 2 0 @3 / finalize"]  # fmt: skip
+        title, calls, _ = self.said(*ranks)
+        self.assertIn("the root of MPI_Bcast on the communicator of /a.py:1; this run completed", title)
+        self.assertEqual(calls[:3], ["the 1st collective on the communicator of /a.py:1:",
+                                     "    rank 2: MPI_Bcast at /a.py:3 with root 0", "    rank 1: MPI_Bcast at /a.py:4 with root 1"])  # fmt: skip
+
+    def test_another_group(self):
+        made = "comm_split 0 0 0 @1 / =comm 2 {} / recv 2 null 0 @2 / finalize"
+        found = self.judged(made.format("0 1"), made.format("1"))
+        self.assertEqual((found.status, dict(found.sections)["The collective calls that differ"][0]),
+                         (7, "rank 1's MPI_Comm_split at /a.py:1 makes another group than the others say"))  # fmt: skip
+        self.assertIn("the ranks disagree on the group of the communicator that MPI_Comm_split makes", found.title)
+
+    def test_no_call_waits_for_one_that_it_cannot_match(self):
+        """Rank 0 is in a barrier, to which rank 1 calls an allreduce instead, if it ever comes so far."""
+        ranks = "barrier 0 @1 / finalize", "ssend 0 0 5 @2 / allreduce 0 @3 / finalize"
+        for wait, other in ((ranks[0], ranks[1]), ("ibarrier 1 0 @1 / wait 1 @4 / finalize", ranks[1]),
+                            ("bcast 0 0 @1 / finalize", "ssend 0 0 5 @2 / bcast 0 1 @3 / finalize")):  # fmt: skip
+            self.again()
+            found = self.judged(wait, other)
+            self.assertEqual((found.status, found.title[:6]), (1, "error:"))
+            self.assertNotIn("until rank 1 comes to MPI_", found.text)
+            self.assertIn("where rank 1 calls MPI_", found.text)
+
+    def test_members_that_disagree_before_the_first_one_calls(self):
+        """A finding compares each call with that of the first member, which has none."""
+        title, calls, did = self.said("recv 0 null 0 @1", "barrier 0 @2", "bcast 0 0 @3", state="oii")
+        self.assertEqual(title, "error: ranks 1 and 2 wait for collective calls on which the ranks disagree, "
+                                "and the run hung")  # fmt: skip
+        self.assertEqual(calls[:2], ["rank 1: MPI_Barrier at /a.py:2", "rank 2: MPI_Bcast at /a.py:3"])
+        self.assertEqual(self.judged().status, 7)
+
+    def test_one_question_by_unproved_code(self):
+        """Who is held as it went, and then what differs: by one question more, where that holds ranks."""
+        for ranks, asked in ((("bcast 0 0 @1", "barrier 0 @2"), ["went", "strict"]), (("barrier 0 @1",) * 2, ["went"])):
+            self.again()
+            self.run_of(*ranks)
+            found = Story(self.folder / "journal", Stored(), is_short=True)
+            self.assertEqual((list(found.answers), found.title[:6] == "error:"), (asked, len(asked) > 1))
+
+    def test_what_is_said_with_an_older_checker(self):
+        """It knows no --held: then it isn't known which calls they are, nor whether the run hung."""
+        self.run_of("bcast 0 0 @1", "barrier 0 @2")
+        found = Story(self.folder / "journal", Older())
+        self.assertEqual((found.status, found.judge.knows_held), (7, False))
+        self.assertEqual(found.title, "error: the ranks call collectives in a different order on MPI_COMM_WORLD, "
+                                      "and the run was interrupted")  # fmt: skip
+        self.assertEqual(found.sections[0][1][:3],
+                         ["a collective on MPI_COMM_WORLD:", "    some ranks: MPI_Bcast", "    others: MPI_Barrier"])  # fmt: skip
+        self.assertEqual(Story(self.folder / "journal", Stored()).judge.knows_held, True)
+
+    def test_many_alike(self):
+        calls = self.said("bcast 0 0 @1 / " * 9 + "finalize", "reduce 0 0 @2 / " * 9 + "finalize")[1]
+        self.assertEqual(calls[0], "the 1st collective on MPI_COMM_WORLD (8 more alike):")
+        self.assertEqual(len(calls), 4)
+
+
+class Older(Stored):
+    """A checker that doesn't know --held."""
+
+    def run(self, command, folder):
+        if any(word.startswith("--held") for word in command):
+            return subprocess.CompletedProcess(command, 3, "", "error: unexpected argument '--held' found")
+        return super().run(command, folder)
+
+
+class Findings(Folders):
+    def test_each_kind(self):
+        first = "barrier 0 @1 / bsend 0 1 4 @2 / irecv 1 0 1 5 @3 / finalize"
         self.assertEqual(
-            self.sections(*ranks)["Findings, which change no verdict"],
+            self.sections(first, "barrier 0 @4 / finalize")["Findings, which change no verdict"],
             [
-                "different roots meet on the communicator of /a.py:1: rank 2's MPI_Bcast at /a.py:3 with root 0 "
-                "and rank 1's MPI_Bcast at /a.py:4 with root 1"
+                "nobody receives what rank 0 sends in MPI_Bsend at /a.py:2 to rank 1 with tag 4",
+                "rank 0 never waits for what it starts in MPI_Irecv at /a.py:3",
             ],
         )
 
@@ -524,6 +723,11 @@ class Strict(Folders):
     def test_strict_runs(self):
         self.assertTrue(self.assumed(*BOTH)[0].startswith("This run was strict: "))
         self.assertFalse(any("strict" in line for line in self.assumed(*BOTH, strict=())))
+
+    def test_a_receive_that_nobody_answers(self):
+        """A cause that names one rank, and no other."""
+        said = self.assumed("irecv 1 0 any 3 @4 / wait 1 @5", "finalize")
+        self.assertTrue(said[0].startswith("This run was strict: "), said)
 
     def test_only_some_ranks(self):
         said = self.sections("finalize", "finalize", after={0: " strict"})["What this assumes"]

@@ -155,8 +155,9 @@ class Judged(Cut):
     def test_different_roots_are_told_and_change_no_verdict(self):
         found = self.judged(FREE, ROOTS, ROOTS, HANG, LAST)
         self.assertEqual((found.differs, found.first, found.count("different"), self.there()), (2, 4, 2, [2, 4, 5]))
-        self.assertEqual(self.said.count("window 2 of journal: verdict free"), 1)
-        self.assertIn("different roots meet on MPI_COMM_WORLD", self.said)
+        title = "window 2 of journal: error: the ranks disagree on the root of MPI_Bcast on MPI_COMM_WORLD; this run went on"
+        self.assertEqual(self.said.count(title), 1)
+        self.assertIn("the 1st collective on MPI_COMM_WORLD in this window:", self.said)
         self.assertNotIn("window 3", self.said)
         self.assertIn("window 4 of journal: verdict hang", self.said)
 

@@ -1,16 +1,22 @@
 """Which ranks wait for which, and what else is wrong with a run, in words."""
 
-from .journals import MAKERS
+from __future__ import annotations
+
+from collections.abc import Container, Iterator
+from dataclasses import dataclass
+from typing import TYPE_CHECKING
+
 from .script import counted, grouped, listed, plural, ranks_named, shortened
+
+if TYPE_CHECKING:
+    from .journals import Call
+    from .runs import Stuck, View
 
 MOST_NAMES, MOST_LINES = 8, 60  # ranks of one cycle, and lines of the causes
 IN_TURN = ", each for the next and the last for the first"
-# The words of traces that the calls which make communicators may have.
-MADE = dict.fromkeys(MAKERS, ("dup", "split", "barrier")) | {"comm_idup": ("ibarrier",)}
 FINDINGS = {
     "unreceived": "nobody receives what rank {0.rank} sends in {1}",
     "request": "rank {0.rank} never waits for what it starts in {2}",
-    "group": "rank {0.rank}'s {2} makes another group than the others say",
 }
 
 
@@ -24,7 +30,15 @@ def alike_key(stuck):
     return stuck.call.name, stuck.call.where, stuck.call.message(), needs, tuple(stuck.senders)
 
 
+def is_another(stuck: Stuck, call: Call) -> bool:
+    """Whether it is a collective call in the place of the one that a rank waits in, which it can't match."""
+    own = [one for one in stuck.calls if one.is_collective]
+    return call.is_collective and bool(own) and not any(map(call.matches, own))
+
+
 def need_words(stuck, rank, call):
+    if call is not None and is_another(stuck, call):
+        return f"where rank {rank} calls {call.placed()} instead"
     if call is not None:
         return f"until rank {rank} comes to {call.placed()}"
     answers = {"receive" if half.is_send else "send" for half in stuck.lacking(rank)}
@@ -75,19 +89,37 @@ def near_misses(stuck):
                 side = "sends to it" if half.is_send else "receives from it"
                 if but and half.is_send != wanted.is_send:
                     found.append(f"    rank {rank} {side} in {call.placed()}, but {but}")
-            yield from found[:3]
+            yield from list(dict.fromkeys(found))[:3]
 
 
-def cycle_lines(view, cycle):
+@dataclass
+class Cause:
+    """Why some ranks wait for ever: they wait for each other, or for something that never comes."""
+
+    ranks: set[int]
+    lines: list[str]
+    is_cycle: bool = False
+
+
+def lacks_for_good(stuck: Stuck) -> bool:
+    """Whether a rank waits for a call that is never made, or that was made otherwise."""
+    ranks = [rank for rank, call in stuck.needs if call is None]
+    is_near = ranks and len(stuck.waited) <= 2 and any(near_misses(stuck))
+    return bool(is_near) or any(map(stuck.view.is_closed, ranks))
+
+
+def cycle_lines(view: View, cycle: list[int], told: Container[int]) -> Iterator[str]:
     ranks, is_long = [view.stuck[rank] for rank in cycle], len(cycle) > MOST_NAMES
+    too = " too" if any(rank in told for rank in cycle) else ""
     if is_long:
         named = [*map(str, cycle[:4]), "..", str(cycle[-1])]
-        yield f"{len(cycle)} ranks wait in a cycle{IN_TURN}: {', '.join(named)}:"
+        yield f"{len(cycle)} ranks wait in a cycle{too}{IN_TURN}: {', '.join(named)}:"
     elif len(cycle) > 1:
-        yield f"ranks {listed(list(map(str, cycle)))} wait for each other{IN_TURN if len(cycle) > 2 else ''}:"
+        turn = IN_TURN if len(cycle) > 2 else ""
+        yield f"ranks {listed(list(map(str, cycle)))} wait for each other{too}{turn}:"
     else:
-        yield f"rank {cycle[0]} waits for a later call of its own:"
-    groups = grouped(ranks, place_key if is_long else id)
+        yield f"rank {cycle[0]} waits for a later call of its own{too}:"
+    groups = grouped([one for one in ranks if one.rank not in told], place_key if is_long else id)
     for first, *others in groups[:MOST_NAMES]:
         yield from (f"    {line}" for line in stuck_lines(first))
         if others:
@@ -96,70 +128,73 @@ def cycle_lines(view, cycle):
         yield f"    and so {plural(len(groups) - MOST_NAMES, 'more rank')} of the cycle"
 
 
-def cause_lines(view):
-    """The causes, and the ranks that they name."""
-    lines, named = [], set()
-    cycles = [cause["cycle"] for cause in view.report["causes"] if "cycle" in cause]
-    for first, *others in grouped(cycles, lambda cycle: tuple(place_key(view.stuck[rank]) for rank in cycle)):
-        lines += cycle_lines(view, first)
-        named.update(first, *others)
-        if others:
-            lines.append("and so " + listed(shortened(map(ranks_named, others), MOST_NAMES)))
-    keys = {place_key(view.stuck[one["missing"][0]]) for one in view.report["causes"] if "missing" in one}
+def lacking_ranks(view: View) -> list[Stuck]:
+    """The ranks of the causes that wait for a call which is missing for good. One that waits in the same line
+    for a missing call belongs to them, also if the causes name another."""
+    missing = {view.stuck[one["missing"][0]] for one in view.report["causes"] if "missing" in one}
+    in_cycles = {rank for one in view.report["causes"] for rank in one.get("cycle", ())}
+    missing |= {view.stuck[rank] for rank in in_cycles if lacks_for_good(view.stuck[rank])}
+    keys = set(map(place_key, missing))
+    others = [view.stuck[rank] for rank in view.held - in_cycles if rank in view.stuck]
+    alike = [one for one in others if place_key(one) in keys]
+    lacking = missing.union(one for one in alike if any(not call for _, call in one.needs))
+    return sorted(lacking, key=lambda one: one.rank)
+
+
+def rests_on_lack(view: View, cycle: list[int], lacking: Container[int]) -> bool:
+    """Whether a cycle is one only by a call that a rank never makes, which has been said."""
+    after = dict(zip(cycle, cycle[1:] + cycle[:1]))
+    return any(rank in lacking and (after[rank], None) in view.stuck[rank].needs for rank in cycle)
+
+
+def all_causes(view: View) -> list[Cause]:
+    """The causes of a report: that which blocks most ranks first, and missing calls before cycles."""
+    groups = grouped(lacking_ranks(view), alike_key)
+    found = [Cause({one.rank for one in group}, list(stuck_lines(*group))) for group in groups]
+    told = {rank for cause in found for rank in cause.ranks}
+    cycles = [one["cycle"] for one in view.report["causes"] if "cycle" in one]
+    cycles = [cycle for cycle in cycles if not rests_on_lack(view, cycle, told)]
+    places = {tuple(cycle): tuple(place_key(view.stuck[rank]) for rank in cycle) for cycle in cycles}
+    for first, *others in grouped(cycles, lambda cycle: places[tuple(cycle)]):
+        lines = list(cycle_lines(view, first, told))
+        lines += ["and so " + listed(shortened(map(ranks_named, others), MOST_NAMES))] if others else []
+        found.append(Cause(set(first).union(*others), lines, True))
+        told |= found[-1].ranks
     starved = [view.stuck[one["starved"]] for one in view.report["causes"] if "starved" in one]
-    # A rank that waits in the same line for a missing call belongs to the cause, also if another is named.
-    alike = [one for one in view.stuck.values() if one.rank in view.held - named and place_key(one) in keys]
-    for group in grouped([one for one in alike if any(not call for _, call in one.needs)], alike_key):
-        lines += stuck_lines(*group)
-        named.update(one.rank for one in group)
-    for group in grouped([one for one in starved if one.rank not in named], alike_key):
-        lines += stuck_lines(*group)
-        named.update(one.rank for one in group)
-    return lines, named
+    for group in grouped([one for one in starved if one.rank not in told], alike_key):
+        found.append(Cause({one.rank for one in group}, list(stuck_lines(*group))))
+    return sorted(found, key=lambda cause: (-len(view.waiting(cause.ranks)), cause.is_cycle))
 
 
-def cause_sections(view, cause="The cause", is_alone=True):
-    """The causes and who else waits. `cause` is the title of the former."""
-    lines, named = cause_lines(view)
-    if lines:
-        several = len(view.report["causes"]) > 1 and cause == "The cause"
-        yield cause + ("s" if several else ""), shortened(lines, MOST_LINES)
+def other_causes(view: View, first: View | None) -> list[Cause]:
+    """The causes but for those of another view, whose ranks are in the same call, and what these lead to."""
+    told = {rank for cause in all_causes(first) for rank in cause.ranks} if first else ()
+    same = {rank for rank in told if rank in view.stuck
+            and view.stuck[rank].call.number == first.stuck[rank].call.number}  # fmt: skip
+    led = view.waiting(same)
+    return [cause for cause in all_causes(view) if led.isdisjoint(cause.ranks)]
+
+
+def cause_sections(view: View, title: str, causes: list[Cause], is_alone: bool = True) -> Iterator[tuple]:
+    """The causes, under a title, and who else waits."""
+    named = {rank for cause in causes for rank in cause.ranks}
+    if causes:
+        yield title, shortened([line for cause in causes for line in cause.lines], MOST_LINES)
     others = grouped([one for one in view.stuck.values() if one.rank not in named], alike_key)
     if others and is_alone:
         lines = [line for group in others for line in stuck_lines(*group)]
         yield "Who else waits" if named else "Who waits", shortened(lines, MOST_LINES)
 
 
-def pair_words(view, key, member):
-    """A finding about two calls that meet: different calls, or one with different roots."""
-    def candidates(rank, wanted):
-        for call in view.calls[rank].values():
-            words = [call.root] if kind == "root" else MADE.get(call.word, (call.word,))
-            if wanted in words and call.comm is not None and (call.comm == 0) == is_world:
-                yield call, view.run.made(rank, call.comm)[0]
-
-    kind, is_world, first, other = key
-    what, end = ("different calls", "") if kind == "kind" else ("different roots", " with root {}")
-    for one, members in (one for rank in view.run.ranks for one in candidates(rank, first)):
-        is_whole = members[:1] == (one.rank,) and member < len(members)
-        met = candidates(members[member], other) if is_whole else ()
-        for two in (two for two, others in met if others == members):
-            both = [f"rank {call.rank}'s {call.placed()}{end.format(call.root)}" for call in (one, two)]
-            return f"{what} meet on {view.run.label(one.rank, one.comm)}: {both[0]} and {both[1]}"
-    return f"{what} meet: {first} and {other}"
-
-
 def finding_lines(view):
-    """The findings of a report: the first of each kind, and how many are alike."""
+    """The findings of a report, but for disagreements: the first of each kind, and how many are alike."""
     counts, words = {}, {}
-    for text in view.report["findings"]:
-        kind, *fields = text.split(" ")
-        call = view.call(int(fields[0]), int(fields[1])) if kind in FINDINGS else None
-        key = (kind, call.word, call.where) if call else (kind, fields[0] == "0", *fields[3:])
+    for kind, *fields in (text.split(" ") for text in view.report["findings"]):
+        if kind not in FINDINGS:
+            continue
+        call = view.call(int(fields[0]), int(fields[1]))
+        key = kind, call.word, call.where
         counts[key] = counts.get(key, 0) + 1
-        if key not in words and call:
-            words[key] = FINDINGS[kind].format(call, call.text(), call.placed())
-        elif key not in words:
-            words[key] = pair_words(view, key, int(fields[2]))
+        words.setdefault(key, FINDINGS[kind].format(call, call.text(), call.placed()))
     alike = {key: f" ({count - 1:,} more alike)" if count > 1 else "" for key, count in counts.items()}
     return [words[key] + alike[key] for key in words]

@@ -3,31 +3,40 @@
 tools/record/journal.h has the forms of these texts. A line is looked up by its number, which a report names.
 """
 
+from __future__ import annotations
+
 import mmap
 import os
 import re
 import resource
 from collections import namedtuple
+from collections.abc import Iterator
 from contextlib import suppress
 from pathlib import Path
 
 BLOCK, TAIL = 1 << 20, 1 << 16  # bytes that are read at once: of lines by number, and of the last calls
+MOST_READ = 1 << 20  # bytes of a journal of which each call is looked at
 HEADER = re.compile(
     rb"journal 2 \d{1,4} (\d{1,4}) \S+ ([io]) .+?( strict)?( multiple)?(?: on (\S+))?"
     rb"(?: polls ([0-9a-f]{8}) ([0-9a-f]{2}) ([0-9a-f]{16}))?", re.DOTALL
 )  # fmt: skip
-POLLS = (None, "MPI_Test", "MPI_Testall", "MPI_Testany", "MPI_Testsome", "MPI_Iprobe", "MPI_Improbe")
+POLLS = (None, "MPI_Test", "MPI_Testall", "MPI_Testany", "MPI_Testsome", "MPI_Iprobe", "MPI_Improbe",
+         "MPI_Request_get_status")  # fmt: skip
 STARTS = re.compile(r"i(?!probe|mprobe|mrecv|nit)\w+|comm_idup")
 ROOTED = {"bcast", "gather", "scatter", "reduce"}
 COLLECTIVES = ROOTED | {"barrier", "allgather", "alltoall", "allreduce", "scan", "exscan"}
 STARTED_COLLECTIVES = {"i" + word for word in COLLECTIVES}
 MAKERS = {"comm_dup", "comm_split", "comm_make"}
+ALL_COLLECTIVES = COLLECTIVES | STARTED_COLLECTIVES | MAKERS | {"comm_idup"}
 STARTED_SENDS = {"isend", "issend", "ibsend", "irsend"}
 SENDS = STARTED_SENDS | {"send", "ssend", "bsend", "rsend", "sendrecv", "isendrecv"}
 RECEIVES = {"recv", "irecv", "sendrecv", "isendrecv", "probe", "iprobe", "mprobe", "improbe"}
 STANDARD = {"send", "isend", "rsend", "irsend", "sendrecv", "isendrecv"}
 WAITS = {"wait", "test", "waitany", "waitsome", "mrecv"}
 NUMBER = re.compile("[0-9]{1,10}")
+# The collective calls on one of a rank's communicators, whose number stands where `%d' is.
+WHOLE = "|".join(sorted(COLLECTIVES | MAKERS)).encode()
+STARTED = "|".join(sorted(STARTED_COLLECTIVES | {"comm_idup"})).encode()
 # How many requests or messages come before the communicator of a call that is on one.
 BEFORE = dict.fromkeys(COLLECTIVES | MAKERS | SENDS | RECEIVES, 0) | {"isendrecv": 2}
 BEFORE |= dict.fromkeys(STARTED_COLLECTIVES | STARTED_SENDS, 1)
@@ -35,6 +44,10 @@ BEFORE |= dict.fromkeys(["irecv", "mprobe", "improbe", "comm_idup"], 1)
 # The bytes of a standard send are its last field; three come before them, after those that differ.
 STANDARD_SEND = rb"\n(?:r?send|ir?send \d+|sendrecv \d+ \S+|isendrecv \d+ \d+ \d+ \S+)"
 SIZE = re.compile(STANDARD_SEND + rb"(?: \S+){3} (\d+)(?= @|\n)")
+# Nonblocking receives with wildcards, by their requests; what they received; and all sends.
+WILD = re.compile(rb"\n(?:irecv (\d+)|isendrecv \d+ (\d+)) [^\n@]*\bany\b")
+DONE = re.compile(rb"\n=done (\d+) (\S+) (\S+)")
+SENT = re.compile(rb"\n(?:i?[srb]?send|i?sendrecv) [^\n]*")
 COUNTED = re.compile(r"(?:([PWNw]) (\d{12}) )?(.*)", re.ASCII)  # of leftR; of other lines the text alone
 NAMES = {"exit": "the end of the process", "cut": "the end of the window",
          "comm_make": "a call that makes communicators", "full": "a call"}
@@ -125,9 +138,49 @@ class Journal:
         """The bytes of its standard sends."""
         return {int(found[1]) for found in SIZE.finditer(self.data, 0, self.end)}
 
-    def tail(self):
+    def collectives_on(self, comm: int) -> Iterator[int]:
+        """The lines of its collective calls on one of its communicators, in their order."""
+        text, line, before = self.data[: self.end], 1, 0
+        form = rb"\n(?:(?:%b)|(?:%b) \d+) %d(?=[ \n])" % (WHOLE, STARTED, comm)
+        for found in re.finditer(form, text or b""):
+            line += text.count(b"\n", before, found.start() + 1)
+            before = found.start() + 1
+            yield line
+
+    def _start_of(self, line: int) -> int:
+        """Where a line begins, but for the line feed before it."""
+        place = -1
+        for _ in range(line - 1):
+            place = self.data.find(b"\n", place + 1, self.end)
+        return max(place, 0)
+
+    def open_wildcards(self, line: int) -> Iterator[tuple[int, tuple[str, str]]]:
+        """The lines of nonblocking receives with wildcards that began before a line and completed after it,
+        with the source and the tag that they received."""
+        if not line or not WILD.search(self.data, 0, self.end):
+            return
+        text, start, number, before = self.data[: self.end], self._start_of(line), 1, 0
+        done = {found[1]: found.groups()[1:] for found in DONE.finditer(text, start)}
+        for found in WILD.finditer(text, 0, start):
+            number += text.count(b"\n", before, found.start() + 1)
+            before = found.start() + 1
+            if (found[1] or found[2]) in done:
+                yield number, tuple(one.decode() for one in done[found[1] or found[2]])
+
+    def sends_after(self, line: int, tag: str) -> Iterator[Call]:
+        """The sends with a tag after a line; some may be of other tags."""
+        wanted = b" %b" % tag.encode()
+        for found in SENT.finditer(self.data[: self.end], self._start_of(line + 1)):
+            if wanted in found[0]:
+                yield Call(self.run, self.rank, found[0][1:].decode("latin-1"))
+
+    def all_calls(self) -> list[Call]:
+        """All of its calls with their reports, if there aren't very many."""
+        return self.tail(MOST_READ) if self.end <= MOST_READ else []
+
+    def tail(self, size=TAIL):
         """The last calls, as far as they are read at once."""
-        start, calls = max(self.end - TAIL, 0), []
+        start, calls = max(self.end - size, 0), []
         for line in self.data[start : self.end].decode("latin-1").split("\n")[1:-1]:
             if not line.startswith("="):
                 calls.append(Call(self.run, self.rank, line))
@@ -229,6 +282,16 @@ class Call:
     @property
     def where(self):
         return self.run.places.where(self.rank, self.site) if self.site else ""
+
+    @property
+    def is_collective(self) -> bool:
+        return self.word in ALL_COLLECTIVES
+
+    def matches(self, other: Call) -> bool:
+        """Whether two collective calls of one wave are the same, as MPI wants it."""
+        if "comm_make" in (self.word, other.word):  # several functions have this word
+            return {self.word, other.word} <= MAKERS
+        return (self.word, self.root) == (other.word, other.root)
 
     @property
     def halves(self):

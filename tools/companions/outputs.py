@@ -10,13 +10,14 @@ from contextlib import suppress
 from pathlib import Path
 from urllib.parse import quote
 
-from .causes import alike_key, need_words, stuck_lines
+from .causes import alike_key, is_another, need_words, stuck_lines
+from .differing import difference_lines, error_of, key_of
 from .journals import windows_in
 from .script import Status, Stopped, grouped, ranks_named, why_of, worst
 
 RED, MOST_ARROWS = "#c0392b", 200
 RULES = {"hang": "A rank waits for ever", "may-hang": "A rank may wait for ever, by what MPI allows",
-         "different-calls": "Calls or roots of one collective differ"}  # fmt: skip
+         "different-calls": "The ranks disagree on a collective call"}  # fmt: skip
 # The outcome of a test by its status.
 OUTCOMES = ("", "failure", "error", "error", "error", "skipped", "skipped", "failure", "failure")
 # Those of runs that aren't judged, and their level in SARIF.
@@ -63,10 +64,11 @@ def results(story):
     hangs = story.verdict == "hang" and not story.run.count("P")
     rule = "may-hang" if story.may_hang else "hang"
     found = [(rule, stuck_lines(one), one.call) for one in (story.stuck if hangs else [])]
-    found += [("different-calls", [line], None) for line in story.found if line.startswith("different ")]
+    found += [("different-calls", [f"error: {error_of([one])}", *difference_lines([one])], one.first)
+              for one, *_ in grouped(story.differences, key_of)]  # fmt: skip
     for rule, lines, call in found:
         text = {"text": "\n".join(line.strip() for line in lines)}
-        result = {"ruleId": rule, "level": "error" if rule == "hang" else "warning", "message": text}
+        result = {"ruleId": rule, "level": "warning" if rule == "may-hang" else "error", "message": text}
         own = call and call.site and call.run.places.own(call.rank, call.site)
         if own and os.path.isabs(own.path):
             place = {"artifactLocation": {"uri": uri_of(own.path)}, "region": {"startLine": own.line}}
@@ -136,7 +138,7 @@ def arrow(view, one, place, is_marked):
     if target.startswith("missing"):
         yield statement(target, label=f"rank {rank}", style="dashed")
     words = "message" if place >= len(one.needs) else need_words(one, rank, None).removeprefix("for a ")
-    label = call.placed() if call else words
+    label = call.placed() + " instead" * is_another(one, call) if call else words
     yield statement(f"rank {one.rank}", target, label=f" {label} ", **style)
 
 

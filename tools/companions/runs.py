@@ -6,11 +6,13 @@ import subprocess
 import sys
 import tempfile
 from collections import Counter, namedtuple
+from collections.abc import Iterable
 from contextlib import suppress
-from functools import lru_cache
+from functools import cached_property, lru_cache
 from pathlib import Path
 
-from .journals import COUNTED, RECEIVES, STANDARD, Call, journals_in, top_of, written
+from .differing import differences_of, held_by_them
+from .journals import COUNTED, RECEIVES, STANDARD, Call, Half, journals_in, top_of, written
 from .places import Places, printable
 from .script import ENDING, HERE, Status, Stopped, worst
 
@@ -43,6 +45,8 @@ class Run:
         self.uncut = [(call, self.left_out["N"].pop(call)) for call in list(self.left_out["N"])
                       if call.startswith(("moments without a cut", "no windows"))]  # fmt: skip
         self.made, self._calls = lru_cache(None)(self._made), {}
+        self.sent, self.received = lru_cache(None)(self._sent), lru_cache(None)(self._received)
+        self.collectives = lru_cache(None)(lambda rank, comm: list(self.journals[rank].collectives_on(comm)))
 
     def count(self, meaning):
         """How many calls weren't recorded; with P they may match recorded ones."""
@@ -58,6 +62,35 @@ class Run:
         if comm < 2:
             return (rank,) if comm else tuple(self.ranks), None, 0
         return self.journals[rank].made(comm)
+
+    def unmatched(self, rank: int, other: int) -> list[tuple[Call, Half]]:
+        """What a rank sends to another one, and no receive there takes, by source, tag and communicator."""
+        taken, found = self.received(other), []
+        for key, sends in self.sent(rank).get(other, {}).items():
+            found += sends[taken[(rank, *key)] :]
+        return found
+
+    def _sent(self, rank: int) -> dict[int, dict[tuple, list[tuple[Call, Half]]]]:
+        """The sends of a rank by the receiver, and then by tag and members."""
+        found = {}
+        for call in self.journals[rank].all_calls():
+            for half in (half for half in call.halves if half.is_send and half.rank is not None):
+                key = half.tag, self.made(rank, half.comm)[0]
+                found.setdefault(half.rank, {}).setdefault(key, []).append((call, half))
+        return found
+
+    def _received(self, rank: int) -> Counter:
+        """How many receives a rank has, by the source, tag and members. Wildcards have what they received."""
+        calls, found = self.journals[rank].all_calls(), Counter()
+        told = {("=done", one[1]): one[2:] for call in calls for one in call.reports if one[0] == "=done"}
+        for call in (call for call in calls if call.word in RECEIVES - {"probe", "iprobe"}):
+            got = next((one[1:] for one in call.reports if one[0] == "=got"), None)
+            got = got or next((told[key] for one in call.requests if (key := ("=done", one)) in told), None)
+            for half in (half for half in call.halves if not half.is_send):
+                peer, tag = got or (half.peer, half.tag)
+                source = self.world_rank(rank, half.comm, peer)
+                found[(source, tag, self.made(rank, half.comm)[0])] += 1
+        return found
 
     def label(self, rank, comm):
         """A communicator in a few words."""
@@ -111,6 +144,11 @@ class Stuck:
         return [half for half in halves if (not half.is_send, half.tag) not in met]
 
 
+def held_in(cause: dict) -> list[int]:
+    """The held ranks that a cause names."""
+    return cause.get("cycle") or cause.get("missing", [])[:1] or [cause["starved"]]
+
+
 class View:
     """A run as one answer reports it. `strict' is the view of strict waiting, if there is another one."""
     def __init__(self, run, report, strict=None, is_went=False):
@@ -128,12 +166,31 @@ class View:
         found = {rank: run.calls(rank, whys) if whys else {} for rank, whys in self.whys.items()}
         self.left_calls = {rank: [found[rank][number] for number in whys] for rank, whys in self.whys.items()}
         self.stuck = {entry["rank"]: Stuck(self, entry) for entry in report["ranks"]}
-        self.held = self.held_among(set(self.stuck))
+        named = [rank for cause in report["causes"] for rank in held_in(cause)]
+        self.held = set(report.get("held", named))  # an older checker names only those of the causes
         self.unreceived = {}  # the sends that nobody receives, with what they send, by both ranks
         for _, rank, at in (text.split(" ") for text in report["findings"] if text.startswith("unreceived ")):
             call = self.call(int(rank), int(at))
             for half in (half for half in call.halves if half.is_send):
                 self.unreceived.setdefault((call.rank, half.rank), []).append((call, half))
+
+    def waiting(self, ranks: set[int]) -> set[int]:
+        """These ranks, and all that wait for them, or for others that do."""
+        found, left = set(ranks), list(ranks)
+        while left:
+            new = self.waiting_for.get(left.pop(), set()) - found
+            found |= new
+            left += new
+        return found
+
+    @cached_property
+    def waiting_for(self) -> dict[int, set[int]]:
+        """The stuck ranks that wait for each rank."""
+        waiting = {}
+        for one in self.stuck.values():
+            for rank in one.waited:
+                waiting.setdefault(rank, set()).add(one.rank)
+        return waiting
 
     def call(self, rank, at):
         return self.calls[rank].get(at) or Call(self.run, rank, "init")
@@ -147,35 +204,13 @@ class View:
         is_sink = call.word in ("irecv", "isendrecv") or self.is_went and call.word in RECEIVES
         return self.whys[call.rank][call.number] not in ("never told", "not judged") or not is_sink
 
-    def held_among(self, ranks):
-        """The stuck ranks that no further calls of others let move on, if only these may be held."""
-        held, loose = ranks & set(self.stuck), {None}
-        while loose:
-            stay = {rank for rank in held if self.stays(self.stuck[rank], held)}
-            held, loose = stay, held - stay
-        return held
-
-    def stays(self, stuck, held):
-        """Whether a rank waits for ever if these do."""
-        if stuck.is_pending:
-            return stuck.waited <= held or any(not call and self.is_closed(who) for who, call in stuck.needs)
-        stay = [(who, call) for who, call in stuck.needs if who in held or not call and self.is_closed(who)]
-        return any(call or not self.may_be_met(stuck, who) for who, call in stay)
-
-    def may_be_met(self, stuck, rank):
-        """Whether a rank has a receive that may have met what is sent to it, by what is known."""
-        sinks = [call for call in self.left_calls[rank] if not self.ends_list(call)]
-        wanted = [half for call in sinks for half in call.halves]
-        sent = [(half.tag, half.comm) for half in stuck.lacking(rank) if half.is_send]
-        return any(one.tag in ("any", tag) and one.comm == comm and one.rank in (None, stuck.rank)
-                   for one in wanted if not one.is_send for tag, comm in sent)  # fmt: skip
-
     def offers(self, rank, other):
         """What a rank sends to another, or receives from it, that meets no call: each call with its half."""
         stuck = self.stuck.get(rank)
         lacking = stuck.lacking(other) if stuck and (other, None) in stuck.needs else []
         found = [(call, half) for half in lacking for call in stuck.calls if half in call.halves]
         found += self.unreceived.get((rank, other), [])
+        found += [] if self.is_closed(other) else self.run.unmatched(rank, other)  # of which nothing is found
         return list(dict.fromkeys(found + (self.strict.offers(rank, other) if self.strict else [])))
 
     def rests_on(self, words):
@@ -190,7 +225,7 @@ class Judge:
         self.path = os.path.abspath(path) if "/" in path else path
         self.words, self.is_nice = ["nice", "-n", str(nice)] if nice else [], nice > 0
         self.words += [self.path, "--unproved"] if unproved else [self.path]
-        self.errors = subprocess.PIPE
+        self.errors, self.knows_held = subprocess.PIPE, True
 
     def run(self, command, folder):
         more = {"stdin": subprocess.DEVNULL, "stdout": subprocess.PIPE, "stderr": self.errors}
@@ -211,7 +246,8 @@ class Judge:
 
     def ask(self, folder, **options):
         """Judges the journals of a folder. It is named from there, since the program takes UTF-8 alone."""
-        words = [f"--{name}={value}" for name, value in options.items() if value is not None]
+        words = [f"--{name}" if value is True else f"--{name}={value}"
+                 for name, value in options.items() if value is not None]  # fmt: skip
         try:
             done = None if ENDING else self.run([*self.words, "judge", "--json", *words, "."], folder)
         except OSError as fault:
@@ -228,6 +264,18 @@ class Judge:
         return Answer(status, None, said or str(subprocess.CalledProcessError(done.returncode, self.path)))
 
 
+    def ask_held(self, folder: Path, ranks: Iterable[int] | None = None, **options) -> Answer:
+        """The same, with who is held of all or of these ranks. An older checker is asked without that."""
+        if self.knows_held:
+            held = True if ranks is None else ",".join(map(str, sorted(ranks)))
+            answer = self.ask(folder, held=held, **options)
+            if answer.status != Status.WORDS:
+                return answer
+        answer = self.ask(folder, **options)
+        self.knows_held = self.knows_held and answer.report is None
+        return answer
+
+
 class Judgement:
     """The answers for one run, and the views of those that are reports, by the names of the questions:
 
@@ -240,8 +288,12 @@ class Judgement:
         self.answers, self.views = {}, {}
         if not run.has_ended:
             self._ask("went", calls="went")
+        went = self.views.get("went")
+        # Calls that differ are found by the strict question: it is asked too where they hold ranks.
+        self.is_short = is_short and not (went and held_by_them(went))
         if all(answer.report for answer in self.answers.values()):
             self._ask("strict")
+        self.is_short = is_short
         self.main = next(iter(self.answers.values()))  # the answer that the report is about
         self.strict, self.went = self.views.get("strict"), self.views.get("went")
         if self.strict and self.strict.report["verdict"] == "hang":
@@ -260,11 +312,12 @@ class Judgement:
         self.may_hang = self.is_hang and self.verdicts().get("went") == "unfinished"
         self.shown = self.went if self.went and not self.may_hang else self.rules
         self.verdict = self.shown.report["verdict"] if self.shown else None
-        self.status = self._status(program_status)
+        self.differences = differences_of(self.strict or self.shown, self.went)
+        self.program_status, self.status = program_status, self._status(program_status)
 
     def _ask(self, name, **options):
         if not (self.is_short and self.answers):
-            self.answers[name] = self.judge.ask(self.run.folder, **{"eager": self.eager, **options})
+            self.answers[name] = self.judge.ask_held(self.run.folder, **{"eager": self.eager, **options})
             if self.answers[name].report is not None:
                 self.views[name] = View(self.run, self.answers[name].report, is_went=name == "went")
 
@@ -280,7 +333,6 @@ class Judgement:
         found = [Status[self.verdict.upper()] if self.shown else self.main.status]
         if self.shown:
             found = [Status.NOT_JUDGED] if self.run.count("P") or self.misses_windows() else found
-            kinds = {text.split(" ")[0] for text in (self.strict or self.shown).report["findings"]}
-            found += [Status.DIFFERENT] if kinds & {"kind", "root"} else []
+            found += [Status.DIFFERENT] if self.differences else []
             found += [Status.IMPOSSIBLE] if set(self.unanswered) - {"buffered"} else []
         return worst(found + ([Status.FAILED] if program_status else []))

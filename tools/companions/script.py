@@ -121,6 +121,12 @@ def plural(count, one, many=None):
     return f"{count:,} {one if count == 1 else many or one + 's'}"
 
 
+def ordinal(number: int) -> str:
+    """1st, 2nd, 3rd, .."""
+    ending = {1: "st", 2: "nd", 3: "rd"}.get(number % 10, "th") if number // 10 % 10 != 1 else "th"
+    return f"{number:,}{ending}"
+
+
 def listed(parts):
     return " and ".join(filter(None, [", ".join(parts[:-1]), parts[-1]]))
 

@@ -1,10 +1,13 @@
 """What is said of a run: a title and sections of lines."""
 
 import re
+from collections.abc import Iterator
 
-from .causes import cause_lines, cause_sections, finding_lines
+from . import wildcards
+from .causes import all_causes, cause_sections, finding_lines, other_causes
+from .differing import difference_lines, error_of
 from .journals import COLLECTIVES, STANDARD, STARTED_COLLECTIVES
-from .runs import Judgement, Run
+from .runs import Judgement, Run, held_in
 from .script import counted, grouped, plural, ranks_named, shortened
 
 MEANINGS = {
@@ -26,6 +29,20 @@ UNFORCED = ("{} on waits for nonblocking collectives ({}). A strict run can't fo
             "members: MPI lets those that don't need all data complete sooner.")  # fmt: skip
 THREADS = ("With MPI_THREAD_MULTIPLE another thread of a rank may call MPI while one waits: nothing is known "
            "of a call that wasn't made when the recording ended.")  # fmt: skip
+# What a run did in which the ranks disagree on a collective call: in the title, and in full.
+ENDS = {
+    "completed": "; this run completed, but only because the MPI library let it",
+    "went on": "; this run went on, but only because the MPI library let it",
+    "failed": ", and the run failed", "hung": ", and the run hung",
+    "interrupted": ", and the run was interrupted",
+}  # fmt: skip
+LET = ("only because this MPI library let these calls pass. MPI does not allow them: with another library, "
+       "other messages or more ranks the program may hang or compute with the wrong data.")  # fmt: skip
+DID = {
+    "completed": f"Every rank reached MPI_Finalize, but {LET}", "went on": f"The run went on, but {LET}",
+    "failed": "The run ended with status {1}.", "hung": "The run hung: {0} can never continue.",
+    "interrupted": "The run was interrupted. These calls may hang, but no rank was seen waiting for them.",
+}  # fmt: skip
 UNRECORDED = "Processes that weren't recorded, and of which no verdict speaks"
 UNCUT = "Why the recording wasn't cut where it could have been"
 NO_MEETING = "no rank called a barrier, or an allreduce, allgather or alltoall of data, of all ranks"
@@ -54,10 +71,13 @@ class Story(Judgement):
         # The places of all calls that are named are looked up at once.
         stuck = [one for view in self.views.values() for one in view.stuck.values()]
         calls = [call for one in stuck for call in [*one.calls, *(call for _, call in one.needs)] if call]
+        calls += [call for one in self.differences for call in one.calls.values()]
         cut = [one for one in self.run.journals if one.last and not one.has_ended]
         sites = {(one.rank, one.polls[1] if one.polls else one.last.site) for one in cut}
         self.run.places.look_up(sites | {(call.rank, call.site) for call in calls})
         self.found = finding_lines(self.strict or self.shown) if self.shown else []
+        is_of_rules = self.shown is self.rules and self.verdict == "hang" and not self.run.is_strict
+        self.doubts = wildcards.doubts(self.shown) if is_of_rules else []
         self.sections = list(self._sections())
         self.title = self._title() if self.shown else self._refused(self.main.said)
         parts = ["\n".join([f"{name}:", *("  " + line for line in lines)]) for name, lines in self.sections]
@@ -65,13 +85,35 @@ class Story(Judgement):
 
     def _title(self):
         """The verdict in words; in doubt, that there is none."""
-        words, doubts = getattr(self, f"_{self.verdict}")(), self.run.count("P")
+        words, doubts = self._words(), self.run.count("P")
         calls = plural(doubts, "call that wasn't", "calls that weren't")
-        doubted = f"not judged: recorded calls may match {calls} recorded (without these: {words})"
+        without = f"(without these: {words.removeprefix('verdict ')})"
+        doubted = f"not judged: recorded calls may match {calls} recorded {without}"
         if self.misses_windows() and not doubts:
             missing = plural(self.windows.unjudged(), "window wasn't", "windows weren't")
-            doubted = f"not judged: {missing} (without these: {words})"
-        return doubted if doubts or self.misses_windows() else f"verdict {words}"
+            doubted = f"not judged: {missing} {without}"
+        return doubted if doubts or self.misses_windows() else words
+
+    def _words(self) -> str:
+        """An error of the program in its collective calls, or else the verdict."""
+        if self.differences:
+            return f"error: {error_of(self.differences)}{ENDS[self._end()]}"
+        return f"verdict {getattr(self, f'_{self.verdict}')()}"
+
+    def _end(self) -> str:
+        """How a run ended in which the ranks disagree on a collective call."""
+        if self.run.has_ended:
+            went_on = all(one.last and one.last.word == "cut" for one in self.run.journals)
+            return "went on" if went_on else "completed"
+        if self.program_status:
+            return "failed"
+        return "hung" if self.went and self.went.held else "interrupted"
+
+    def _what_it_did(self) -> Iterator[str]:
+        """What a run did in which the ranks disagree on a collective call."""
+        end, held = self._end(), self.went.held if self.went else ()
+        yield DID[end].format(ranks_named(held), self.program_status)
+        yield from [] if self.run.has_ended else self._where()
 
     def _refused(self, said):
         """With the line of code of the line that is refused, which may have any form."""
@@ -89,7 +131,8 @@ class Story(Judgement):
     def _hang(self):
         many = f"{len(self.stuck)} of {len(self.run.ranks)}"
         may = f"nothing held the ranks when they were cut off, but {many} may wait"
-        return "hang: " + (may if self.may_hang else f"{many} ranks wait")
+        hang = "hang, if wildcards match as in this run" if self.doubts else "hang"
+        return f"{hang}: {may if self.may_hang else f'{many} ranks wait'}"
 
     def _unfinished(self):
         full = [one.rank for one in self.run.journals if one.last and one.last.word == "full"]
@@ -100,11 +143,16 @@ class Story(Judgement):
 
     def _sections(self):
         found, counts = {}, self.run.unrecorded.items()
+        if self.differences:
+            yield "The collective calls that differ", difference_lines(self.differences)
+            yield "What the run did", shortened(self._what_it_did(), 24)
         if self.shown:
             yield from self._causes()
+            where = [] if self.differences else list(self._where())  # it has been said
+            others = "other " if any(map(self._is_told, self.run.ranks)) else ""
             found = {"Findings, which change no verdict": self.found,
                      "Communicators": self._communicators(), "What this assumes": list(self._assumptions()),
-                     "Where the ranks were that didn't come to MPI_Finalize": list(self._where()),
+                     f"Where the {others}ranks were that didn't come to MPI_Finalize": where,
                      "Calls at which the judgement of a rank ends": self._stops(True),
                      "Receives of which it isn't known what they took": self._stops(False),
                      "Unanswered questions": [": ".join(one) for one in self.unanswered.items()]}  # fmt: skip
@@ -128,11 +176,17 @@ class Story(Judgement):
 
     def _causes(self):
         went, rules = self.went, self.rules
-        yield from cause_sections(went, "It hung here") if went else cause_sections(rules)
-        if went and self.is_hang and cause_lines(rules) != cause_lines(went):
-            yield from cause_sections(rules, f"It may hang here{' too' if went.held else ''}", False)
+        if self.differences and self.verdict == "unfinished":  # where the ranks were has been said
+            return
+        causes = all_causes(went or rules)
+        title = "It hung here" if went else "The cause" if len(causes) == 1 else "The causes"
+        yield from cause_sections(went or rules, title, causes)
+        if went and self.is_hang:
+            is_hang = went.report["verdict"] == "hang"
+            others = other_causes(rules, went if is_hang else None)
+            yield from cause_sections(rules, "It may hang here" + " too" * is_hang, others, False)
         if self.by_tests:
-            yield from cause_sections(self.strict, UNTIL_TESTS, False)
+            yield from cause_sections(self.strict, UNTIL_TESTS, all_causes(self.strict), False)
 
     def _communicators(self):
         """The communicators of stuck calls, but for the world."""
@@ -144,6 +198,9 @@ class Story(Judgement):
         return [f"{label}: {words}" for label, words in lines.items()]
 
     def _assumptions(self):
+        if self.differences and self.verdict == "unfinished":
+            return
+        yield from shortened(self.doubts, 4)
         if self.run.is_strict is None:
             strict = [one.rank for one in self.run.journals if one.header and one.header.is_strict]
             yield f"Only {ranks_named(strict)} ran strictly, so this is reported as a run that wasn't strict."
@@ -156,7 +213,7 @@ class Story(Judgement):
             cure = {"free": FREE, "hang": HANG}.get(self.verdicts().get("buffered"), "")
             yield SEND.format(size) + cure + (EAGER if self.eager is None else "")
         elif self.verdict == "hang" and not self.shown.rests_on(STANDARD):
-            yield "No buffer would cure this: no standard send is among these calls."
+            yield "No buffer would cure this: none of these ranks waits in a standard send."
         if any(self.run.journals[one.rank].header.is_multiple for one in self.stuck):
             yield THREADS
         if self.shown.rests_on(COLLECTIVES - {"barrier"} | STARTED_COLLECTIVES):
@@ -164,7 +221,7 @@ class Story(Judgement):
 
     def _unforced(self, view):
         """Causes of a strict run that need a nonblocking collective to wait for all its members."""
-        causes = [cause.get("cycle") or cause["missing"][:1] for cause in view.report["causes"]]
+        causes = [held_in(cause) for cause in view.report["causes"]]
         unforced = STARTED_COLLECTIVES - {"ibarrier"} | {"comm_idup"}
         named = {rank for cause in causes for rank in cause}
         ranks = {rank for rank in named if any(start.word in unforced for start in view.stuck[rank].starts)}
@@ -176,10 +233,20 @@ class Story(Judgement):
         """A line for all ranks of which the same is said but for how often they asked."""
         ends = {"finalize"} | ({"cut"} if self.run.has_ended else set())
         cut = [one.rank for one in self.run.journals if not one.last or one.last.word not in ends]
+        cut = [rank for rank in cut if not self._is_told(rank)]
         for ranks in grouped(cut, self._place_of):
             counts = sorted(one[2] for one in (self.run.journals[rank].polls for rank in ranks) if one)
             asked = " to ".join(f"{count:,}" for count in dict.fromkeys(counts[:1] + counts[-1:]))
             yield f"{ranks_named(ranks)}: {self._place_of(ranks[0]).replace(TIMES, f'{asked} times')}"
+
+    def _is_told(self, rank: int) -> bool:
+        """Whether it has been said, of a run that hung, that a rank is in its last call."""
+        stuck, journal = self.shown.stuck.get(rank), self.run.journals[rank]
+        is_there = self.verdict == "hang" and self.shown is self.went and stuck and journal.header.is_inside
+        if not is_there or journal.polls or rank in self.run.within:
+            return False
+        call, last = stuck.call, journal.last
+        return (call.word, call.fields, call.site) == (last.word, last.fields, last.site)
 
     def _place_of(self, rank):
         journal, last = self.run.journals[rank], self.run.journals[rank].last

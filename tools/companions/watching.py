@@ -1,18 +1,22 @@
 """Runs a command to its end, or for as long as it may, and looks meanwhile for ranks that wait for ever."""
 
+from __future__ import annotations
+
 import bisect
 import os
 import signal
 import socket
 import subprocess
 import time
+from collections.abc import Iterable
 from contextlib import suppress
 
 from .causes import stuck_lines
+from .differing import difference_lines, differences_of, error_of
 from .journals import windows_in
 from .outputs import runs_in
 from .runs import Run, View
-from .script import Stopped, end_tree, fields_of, ranks_named, say, why_of
+from .script import Stopped, end_tree, fields_of, grouped, ranks_named, say, why_of
 
 STEP, PAUSE = 0.2, 1.0  # seconds between two looks at the command, and at the journals
 
@@ -78,10 +82,7 @@ class Alarm:
         run = Run(watched.folder)
         if {os.fsencode(socket.gethostname())} != {one.header.host for one in run.journals if one.header}:
             raise Stopped("some ranks are on other machines")
-        answer, held = self.judge.ask(watched.folder, calls="went"), set()
-        if answer.report is not None and not run.count("P"):  # with MULTIPLE another thread may call
-            view = View(run, answer.report)
-            held = view.held_among({rank for rank in still if not run.journals[rank].header.is_multiple})
+        view, held = self._held(run, still)
         marks = {rank: watched.marks[rank] for rank in held}
         watched.rest = time.monotonic() + 9 * (time.monotonic() - now)  # one tenth of the time judges
         watched.look(now)
@@ -93,9 +94,37 @@ class Alarm:
         watched.reported, wait = marks, "waits" if len(held) == 1 else "wait"
         end = "the run is ended" if self.stops else "the run goes on; --stop would end it"
         said = [f"{ranks_named(held)} {wait} for ever, whatever the other ranks do; {end}:"]
-        said += ["  " + line for rank in sorted(held)[:8] for line in stuck_lines(view.stuck[rank])]
-        say("\n".join(said))
+        say("\n  ".join(said + self._reasons(view, held)))
         return True
+
+    def _held(self, run: Run, still: Iterable[int]) -> tuple[View | None, set[int]]:
+        """Which of the ranks that stand still wait for ever, whatever calls the others make, and a view of
+        all. Only they may be held, and ranks that called MPI_Finalize, of which all calls are known."""
+        still = {rank for rank in still if not run.journals[rank].header.is_multiple}  # else threads may call
+        if not still or run.count("P"):
+            return None, set()
+        over = {one.rank for one in run.journals if one.last and one.last.word == "finalize"}
+        answer = self.judge.ask_held(run.folder, still | over, calls="went")
+        if not self.judge.knows_held:
+            self.is_off = True
+            say(f"nothing is reported before the run ends: this needs a newer checker than {self.judge.path}")
+        if answer.report is None or "held" not in answer.report:
+            return None, set()
+        return View(run, answer.report), still & set(answer.report["held"])
+
+    def _reasons(self, view: View, held: set[int]) -> list[str]:
+        """Collective calls that differ, and for what the held ranks wait."""
+        answer, lines = self.judge.ask_held(view.run.folder), []
+        differences = differences_of(View(view.run, answer.report) if answer.report else None, view)
+        if differences:
+            lines = [f"error: {error_of(differences)}"]
+            lines += [f"  {line}" for line in difference_lines(differences)]
+        waiting = [rank for rank in sorted(held) if rank in view.stuck]
+        lines += [line for rank in waiting[:8] for line in stuck_lines(view.stuck[rank])]
+        lasts = {rank: view.run.journals[rank].last.placed() for rank in sorted(held - set(waiting))}
+        for ranks in grouped(lasts, lasts.get):
+            lines.append(f"{ranks_named(ranks)} {'is' if len(ranks) == 1 else 'are'} in {lasts[ranks[0]]}")
+        return lines
 
 
 def is_in_front():

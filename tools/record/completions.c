@@ -501,6 +501,9 @@ int MPI_Request_get_status(MPI_Request handle, int *found, MPI_Status *status) {
         left_out(NOTHING, "MPI_Request_get_status");
     if (is_strict())
         strict_look(handle);
-    return over(CALL(Request_get_status, (handle, found, status)));
+    int result = CALL(Request_get_status, (handle, found, status));
+    if (is_recorded() && result == MPI_SUCCESS && !*found)
+        journal_polled(GET_STATUS, site());
+    return over(result);
 }
 ALSO_PMPI(Request_get_status)

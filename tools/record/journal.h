@@ -108,7 +108,7 @@ void journal_came_back(void);
 void journal_take_back(void);
 
 /* The tests and probes that find nothing. */
-typedef enum { TEST = 1, TESTALL, TESTANY, TESTSOME, IPROBE, IMPROBE } Poll;
+typedef enum { TEST = 1, TESTALL, TESTANY, TESTSOME, IPROBE, IMPROBE, GET_STATUS } Poll;
 void journal_polled(Poll call, int site);
 
 /* Takes out the only line of the call, if nothing came after it, so that another one comes in its place. */

@@ -38,6 +38,20 @@ try_alarm_without_stop() {
     expect_line "$library: a hang without --stop" 1 'was ended after 20 seconds' 'reported once' "$wrong"
 }
 
+# Collective calls that differ are reported as that, and end the run within 15 seconds.
+try_alarm_of_differing_calls() {
+    local library=$1 way=$2 began after wrong=''
+    prepare "$library" differ.c 4
+    began=$SECONDS
+    run_with --stop "${command[@]}" "$way"
+    after=$((SECONDS - began))
+    ((after <= 25)) || wrong="after $after seconds"
+    grep -q '^error: the ranks .*, and the run hung$' "$work/report" || wrong+=' without that title'
+    wait_until is_left_over || wrong+=" left over: $(left_over)"
+    expect_line "$library: collective calls that differ, $way" 7 'wait for ever.*; the run is ended' \
+        'reported and ended' "$wrong"
+}
+
 # A rank whose machine has another name, as far as it is concerned.
 try_alarm_of_other_machines() {
     local library=$1 name="$1: a rank on another machine" wrong=''
@@ -60,6 +74,8 @@ try_alarm() {
     try_alarm_of_a_hang "$library" 3
     try_alarm_without_stop "$library"
     try_alarm_of_other_machines "$library"
+    try_alarm_of_differing_calls "$library" root
+    try_alarm_of_differing_calls "$library" form
     while read -r way seconds; do
         prepare "$library" quiet.c 2
         expect_quiet "$library: quiet.c $way $seconds" "$way" "$seconds"

@@ -4,7 +4,7 @@
 # What the program and its launcher wrote comes before the report; how often a test found nothing differs from
 # run to run, and so do the names of folders.
 report_in() {
-    sed -n '/^Run 1 of \|^Window \|^verdict \|^no verdict\|^not judged\|^refused /,$p' "$1" |
+    sed -n '/^Run 1 of \|^Window \|^error: \|^verdict \|^no verdict\|^not judged\|^refused /,$p' "$1" |
         sed "/^Only counted/,/^\$/d; s:$work:WORK:g" |
         sed -E 's/\([0-9,]+ times, found nothing\)/(N times, found nothing)/'
 }
@@ -83,6 +83,10 @@ is_possible() {
     init-twice)
         # A second MPI_Init ends the program, whatever its error handler is.
         [[ $1 == mpich ]]
+        ;;
+    differ-order)
+        # MPICH's MPI_Barrier takes the message of MPI_Bcast and aborts the run, wherever the others are.
+        [[ $1 == openmpi ]]
         ;;
     failed-*)
         # Open MPI 4 has no MPI_Isendrecv, and its MPI_Waitall doesn't say that this receive was too short.
