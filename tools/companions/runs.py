@@ -11,7 +11,7 @@ from contextlib import suppress
 from functools import cached_property, lru_cache
 from pathlib import Path
 
-from .differing import differences_of, held_by_them
+from .differing import differences_of
 from .journals import COUNTED, RECEIVES, STANDARD, Call, Half, journals_in, top_of, written
 from .places import Places, printable
 from .script import ENDING, HERE, Status, Stopped, worst
@@ -22,6 +22,9 @@ VERDICTS = {0: "free", 1: "hang", 5: "unfinished"}
 Answer = namedtuple("Answer", "status report said", defaults=(None, ""))
 MATCHED = {"mprobe", "improbe"}  # they take messages, for which other requests may stand
 WITHIN = ("in {}, which isn't recorded", "in a call that isn't recorded: {}")  # by its name, or other words
+# What the script mpiwait says where the reference answers.
+UNVERIFIED = "mpiwait: the checker that produced this answer has not been verified"
+NOTED: list[str] = []  # such a line, once it was written
 
 
 class Run:
@@ -218,6 +221,16 @@ class View:
         return any(call.word in words for one in self.stuck.values() for call in one.calls)
 
 
+def without_note(said: str) -> str:
+    """What a checker wrote to standard error, without that it isn't verified. The first such line is
+    written."""
+    notes = [line for line in said.splitlines(keepends=True) if line.startswith(UNVERIFIED)]
+    if notes and not NOTED:
+        NOTED.append(notes[0])
+        sys.stderr.write(notes[0])
+    return "".join(line for line in said.splitlines(keepends=True) if line not in notes)
+
+
 class Judge:
     """The program that MPIWAIT names, or else the repository's. Ctrl-C at a terminal ends no nice one."""
     def __init__(self, unproved=False, nice=0):
@@ -233,8 +246,8 @@ class Judge:
         return subprocess.run(command, cwd=folder, check=False, start_new_session=self.is_nice, **more)
 
     def try_out(self, has_windows=False):
-        """Judges a run of one rank that makes no call. It may have to be built for that, which it says."""
-        self.errors = None
+        """Judges a run of one rank that makes no call. Another checker may say something meanwhile."""
+        self.errors = None if os.environ.get("MPIWAIT") else subprocess.PIPE
         for end in ("finalize", "cut") if has_windows else ("finalize",):
             with tempfile.TemporaryDirectory() as folder:
                 Path(folder, "journal0").write_text(f"journal 2 0 1 a-run o a-library\n{end}\n")
@@ -254,13 +267,14 @@ class Judge:
             raise Stopped(f"the checker {self.path} can't be run: {fault.strerror}") from None
         if ENDING:
             raise Stopped("it was interrupted")
+        errors = without_note(done.stderr or "")
         if done.returncode in VERDICTS:
-            sys.stderr.write(done.stderr or "")  # that the checker isn't proved
+            sys.stderr.write(errors)
             with suppress(ValueError):
                 return Answer(done.returncode, json.loads(done.stdout))
             raise Stopped(f"the checker {self.path} answered by status {done.returncode} without a report")
         status = done.returncode if done.returncode in (Status.REFUSED, Status.WORDS) else 4
-        said = (done.stdout + (done.stderr or "")).strip()
+        said = (done.stdout + errors).strip()
         return Answer(status, None, said or str(subprocess.CalledProcessError(done.returncode, self.path)))
 
 
@@ -282,18 +296,14 @@ class Judgement:
     strict: the calls wait as long as MPI lets them; went: where the ranks were when recording was cut off;
     pass: as strict, but tests wait for nothing; buffered: as strict, with all messages buffered."""
 
-    def __init__(self, judge, run, eager=None, is_short=False, program_status=0):
-        self.judge, self.run, self.eager, self.is_short = judge, run, eager, is_short
+    def __init__(self, judge, run, eager=None, program_status=0):
+        self.judge, self.run, self.eager = judge, run, eager
         self.windows = run.windows
         self.answers, self.views = {}, {}
         if not run.has_ended:
             self._ask("went", calls="went")
-        went = self.views.get("went")
-        # Calls that differ are found by the strict question: it is asked too where they hold ranks.
-        self.is_short = is_short and not (went and held_by_them(went))
         if all(answer.report for answer in self.answers.values()):
             self._ask("strict")
-        self.is_short = is_short
         self.main = next(iter(self.answers.values()))  # the answer that the report is about
         self.strict, self.went = self.views.get("strict"), self.views.get("went")
         if self.strict and self.strict.report["verdict"] == "hang":
@@ -316,10 +326,9 @@ class Judgement:
         self.program_status, self.status = program_status, self._status(program_status)
 
     def _ask(self, name, **options):
-        if not (self.is_short and self.answers):
-            self.answers[name] = self.judge.ask_held(self.run.folder, **{"eager": self.eager, **options})
-            if self.answers[name].report is not None:
-                self.views[name] = View(self.run, self.answers[name].report, is_went=name == "went")
+        self.answers[name] = self.judge.ask_held(self.run.folder, **{"eager": self.eager, **options})
+        if self.answers[name].report is not None:
+            self.views[name] = View(self.run, self.answers[name].report, is_went=name == "went")
 
     def verdicts(self):
         return {name: VERDICTS.get(answer.status) for name, answer in self.answers.items()}
