@@ -239,7 +239,7 @@ class Script(unittest.TestCase):
                                "mpiwait: it is built as its sources are\n")  # fmt: skip
 
     def test_help_needs_no_build(self):
-        for words, name in (("--help", "help"), ("-V", "version"), ("check --help", "check-help"), ("check -h", "check-h"),
+        for words, name in (("--help", "commands"), ("-h", "commands"), ("-V", "version"), ("check --help", "check-help"), ("check -h", "check-h"),
                             ("lint -h", "lint-help"), ("check -V", "check-version"), ("lint --version", "lint-version"),
                             ("judge -h", "judge-help"), ("close --help", "close-help"),
                             ("judge -V", "judge-version"), ("close --version", "close-version")):

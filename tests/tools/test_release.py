@@ -178,8 +178,13 @@ class Script(unittest.TestCase):
         folder = tempfile.TemporaryDirectory()
         self.addCleanup(folder.cleanup)
         self.top = Path(folder.name)
-        for name in ("bin", "libexec"):
-            (self.top / name).mkdir()
+        for name in ("bin", "libexec", "tools/companions", "tools/texts"):
+            (self.top / name).mkdir(parents=True)
+        for name in ("companions/words.sh", "texts/commands"):
+            shutil.copy(TOP / "tools" / name, self.top / "tools" / name)
+        for name in ("run", "limits"):
+            (self.top / "tools" / name).write_text(f"#!/bin/sh\necho tools/{name} $*\nexit 7\n")
+            (self.top / "tools" / name).chmod(0o755)
         self.script = self.top / "bin/mpiwait"
         shutil.copy(TOP / "release/mpiwait", self.script)
         self.program = self.top / "libexec/mpiwait"
@@ -191,20 +196,37 @@ class Script(unittest.TestCase):
         return said.returncode, said.stdout.split("\n")[:-1]
 
     def test_the_words_are_the_programs(self):
-        for words in ([], [""], ["run"], ["check", "--json", "a run"], ["lint", "--", "-x"], ["--help"]):
+        for words in (["bin"], ["check", "--json", "a run"], ["lint", "--", "-x"], ["--version"], ["check", "--help"]):
             self.assertEqual(self.run_script(*words), (5, [f"<{word}>" for word in words]))
 
+    def test_the_tools_are_commands(self):
+        self.assertEqual(self.run_script("run", "mpirun", "./a"), (7, ["tools/run mpirun ./a"]))
+        self.assertEqual(self.run_script("limits", "run"), (7, ["tools/limits run"]))
+        (self.top / "run").mkdir()
+        self.assertEqual(self.run_script("run"), (5, ["<run>"]))
+
+    def test_the_help_lists_all_commands(self):
+        for word in ("-h", "--help"):
+            status, said = self.run_script(word)
+            self.assertEqual(status, 0)
+            for command in ("run", "limits", "check", "lint", "judge", "close", "build"):
+                self.assertTrue(any(line.startswith(f"  {command} ") for line in said))
+
+    def test_wrong_words(self):
+        for words in ([], [""], ["/nonexistent"], ["--frob"], ["check", "--eager", "4k", "."], ["build"]):
+            self.assertEqual(self.run_script(*words), (3, []))
+
     def test_the_program_answers_also_where_unproved_code_may(self):
-        self.assertEqual(self.run_script("--unproved", "run"), (5, ["<run>"]))
+        self.assertEqual(self.run_script("--unproved", "bin"), (5, ["<bin>"]))
         self.assertEqual(self.run_script("check", "--unproved"), (5, ["<check>", "<--unproved>"]))
 
     def test_its_own_failures_are_no_verdict(self):
         self.program.unlink()
-        self.assertEqual(self.run_script("--help"), (4, []))
+        self.assertEqual(self.run_script("--version"), (4, []))
 
     @unittest.skipUnless(shutil.which("shellcheck"), "there is no shellcheck")
     def test_shellcheck_finds_nothing(self):
-        said = subprocess.run(["shellcheck", self.script], capture_output=True, text=True)
+        said = subprocess.run(["shellcheck", "-x", TOP / "release/mpiwait"], capture_output=True, text=True, cwd=TOP)
         self.assertEqual(said.stdout, "")
 
 

@@ -1,5 +1,6 @@
 # What the scripts `mpiwait' have in common: of the repository and of a release.
-# shellcheck shell=bash
+# They have the function `fail', and the variable `top' for their folder.
+# shellcheck shell=bash disable=SC2154
 
 # A sentence about words that can't be right, seen at once: before anything is built, read or asked.
 mistake_in() {
@@ -22,6 +23,12 @@ mistake_in() {
         fi
         option=$word
     done
+}
+
+# The help of all commands.
+show_commands() {
+    cat -- "$top/tools/texts/commands" || fail "the help can't be shown"
+    exit 0
 }
 
 # As the program reads one: a plus and zeros may come before it.
