@@ -19,9 +19,6 @@ class Readme(unittest.TestCase):
         command = re.search(r"The test command is\n\n```console\n\$ (.*)\n```\n", README)[1]
         self.assertEqual((TOP / ".ci/run").read_text().splitlines()[-1], f"exec {command}")
 
-    def test_the_first_screen_is_short(self):
-        self.assertLessEqual(len(README.encode()), 6144)
-
 
 if __name__ == "__main__":
     unittest.main()
