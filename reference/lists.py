@@ -11,18 +11,11 @@ from collections.abc import Callable, Iterable, Sequence
 from dataclasses import dataclass
 from typing import NoReturn
 
-from .communicators import (
-    COLLECTIVES,
-    MAKERS,
-    SENDS,
-    STARTED_COLLECTIVES,
-    STARTED_SENDS,
-    Communicators,
-)
+from .communicators import MAKERS, SENDS, STARTED_SENDS, Communicators
 from .journals import Entry, Journal
 from .ranks import MOST_CALLS
 from .texts import spelled
-from .traces import MOST_REQUESTS
+from .traces import COLLECTIVES, MOST_REQUESTS, STARTED_COLLECTIVES
 from .waits import Item, Message, Pending
 
 Request = str | int | tuple[int, str]  # as the journal has it; the line of a blocking call; one half of such a call
