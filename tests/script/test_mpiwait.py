@@ -64,7 +64,7 @@ class Script(unittest.TestCase):
         for name in ("head", "r0", "8", "-x"):
             (self.here / name).write_text("finalize\n")
         (self.folder / "bin").mkdir()
-        (self.folder / "KIT-ID").write_text("a kit")
+        (self.folder / "KIT-ID").write_text("rattle-kit-13f logic dac8208d650f15bf\n")
         for name, text in (("rt", RT), ("rattle", RATTLE), ("rattle-link", LINK)):
             file = self.folder / "bin" / name
             file.write_text(text)
@@ -180,7 +180,7 @@ class Script(unittest.TestCase):
             (["help"], "no command or folder `help'"), (["/nonexistent"], "no command or folder `/nonexistent'"),
             (["head"], "no command or folder `head'"), (["check", "--eager", "4k", "."], "--eager takes a number of bytes"),
             (["judge", "--eager=2147483648", "."], "and not `2147483648'"), (["judge", "--eager=", "."], "and not `'"),
-            (["check", "--eager", "-1", "."], "and not `-1'"), (["build", "now"], "takes no further words"),
+            (["check", "--eager", "-1", "."], "and not `-1'"), (["build", "now"], "takes no words but --other-kit"),
         ):  # fmt: skip
             for before in ([], ["--unproved"]):
                 with self.subTest(words):
@@ -209,6 +209,15 @@ class Script(unittest.TestCase):
         status, out, err = self.run_script("build", path=self.tools("python3"))
         self.assertEqual((status, out), (3, ""))
         self.assertIn("rt of the Rattle kit", err)
+
+    def test_another_kit_is_refused_or_shown(self):
+        (self.folder / "KIT-ID").write_text("rattle-kit-99 logic 0\n")
+        status, out, err = self.run_script("build")
+        self.assertEqual((status, out, self.calls()), (3, "", []))
+        self.assertIn("rattle-kit-99 logic 0, and mpiwait is proved by rattle-kit-13f or rattle-kit-13b", err)
+        self.assertEqual(self.run_script("build", "--other-kit")[0], 0)
+        said = subprocess.run([self.top / "crates/mpiwait/out/mpiwait", "--version"], capture_output=True, text=True).stdout
+        self.assertEqual(self.run_script("--version"), (0, f"{said}proved by another kit: rattle-kit-99 logic 0\n", ""))
 
     def test_a_build_says_so_and_is_kept(self):
         said = "mpiwait: proving and building it: an hour or two\n"
@@ -301,7 +310,7 @@ class Script(unittest.TestCase):
         self.assertEqual(self.build(), ["link"])
         (self.top / "crates/journals/src/lib.rt").write_text("fn one() {}")
         self.assertEqual(self.build(), ["journals", "mpiwait", "link"])
-        (self.folder / "KIT-ID").write_text("another kit")
+        (self.folder / "KIT-ID").write_text("rattle-kit-13b logic dac8208d650f15bf\n")
         self.assertEqual(self.build(), ["mpicall", "journals", "mpiwait", "link"])
 
     def test_what_was_proved_over_another_build_is_proved_again(self):
