@@ -4,6 +4,7 @@ They want no program and no MPI: the help is that of tools/texts, which `tools/t
 program's own.
 """
 
+import hashlib
 import re
 import shutil
 import subprocess
@@ -268,8 +269,15 @@ class Make(unittest.TestCase):
         cls.program = Path(folder.name) / "program"
         compile = ["gcc", "-x", "c", "-w", f'-DTEXTS="{TEXTS}"', "-o", cls.program, "-"]
         subprocess.run(compile, input=PROGRAM, text=True, check=True)
+        cls.note_build()
         cls.log = Path(folder.name) / "log"
         cls.archive, cls.info = cls.packed()
+
+    @classmethod
+    def note_build(cls):
+        """As `mpiwait build' does."""
+        digest = hashlib.sha256(cls.program.read_bytes()).hexdigest()
+        Path(f"{cls.program}.made").write_text(f"kit rattle-kit-13f logic 0\nsha256 {digest}\n")
 
     @classmethod
     def git(cls, *words):
@@ -294,9 +302,31 @@ class Make(unittest.TestCase):
         self.assertEqual(self.packed()[0], self.archive)
 
     def test_build_info(self):
-        self.assertIn("not built by this script", self.info)
+        self.assertIn("kit       rattle-kit-13f logic 0\nprogram   proved and built by `mpiwait build'\n", self.info)
         self.assertIn("no log of the gate was given", self.info)
         self.assertRegex(self.info, r"C library +at least GLIBC_2\.\d+")
+
+    def test_a_program_that_no_build_made(self):
+        Path(f"{self.program}.made").unlink()
+        self.addCleanup(self.note_build)
+        said = self.make("--program", self.program)
+        self.assertEqual(said.returncode, 4)
+        self.assertIn("--unproved-program packs it all the same", said.stderr)
+        said = self.make("--unproved-program", self.program)
+        self.assertRegex(said.stdout, r"/mpiwait-[0-9.]+-unproved-linux-x86_64\.tar\.xz\n$")
+        taken = ["tar", "-xO", "-f", said.stdout.strip(), "--wildcards", "*/BUILD-INFO"]
+        info = subprocess.run(taken, capture_output=True, text=True, check=True).stdout
+        self.assertIn("kit       not known\nprogram   NOT PROVED: it was given as a file\n", info)
+
+    def test_it_is_installed(self):
+        with tempfile.TemporaryDirectory() as folder:
+            for _ in range(2):
+                said = self.make("--program", self.program, "--install", folder)
+                self.assertEqual((said.returncode, said.stdout), (0, f"{folder}/lib/mpiwait\n"))
+            ran = subprocess.run([f"{folder}/bin/mpiwait", "--help"], capture_output=True, text=True, check=False)
+            self.assertIn("  limits  ", ran.stdout)
+            for name in ("man/man1/mpiwait.1", "bash-completion/completions/mpiwait", "zsh/site-functions/_mpiwait"):
+                self.assertGreater(Path(folder, "share", name).stat().st_size, 0)
 
     def test_the_documents_link_to_what_is_packed(self):
         with tempfile.TemporaryDirectory() as folder:
