@@ -24,11 +24,11 @@ class Calls:
         self.joins: list[tuple[int, int]] = []
         self.alone: list[int] = []  # receive what nobody knows, or what a moved receive before them may take
         self.moved: list[Moved] = []
-        sinks = list_of_rank.messages_of_sinks()
+        undetermined = list_of_rank.undetermined_by_place()
         for at, (text, line) in enumerate(zip(list_of_rank.lines, list_of_rank.places)):
             if at in list_of_rank.moved:
                 self.moved.append(list_of_rank.moved[at])
-            elif at in sinks:
+            elif at in undetermined:
                 self.alone.append(line)
             else:
                 self.take(line, *text.split(" "))

@@ -28,7 +28,7 @@ class Choice:
 
     tests: str = "wait"  # or pass: tests that completed a send wait for it at the end of the rank
     calls: str = "strict"  # or went: calls that came back stand for what they started
-    has_undetermined: bool = False  # whether a receive whose message isn't known ends its list
+    has_undetermined: bool = False  # whether a list goes on after a receive whose message isn't known
 
 
 class Left(Exception):
@@ -41,13 +41,13 @@ class List:
     def __init__(self, journal: Journal, communicators: Communicators, choice: Choice) -> None:
         self.journal, self.communicators = journal, communicators
         self.passes_tests = choice.tests == "pass" and choice.calls == "strict"
-        self.as_it_went, self.has_sinks = choice.calls == "went", choice.has_undetermined
+        self.as_it_went, self.has_undetermined = choice.calls == "went", choice.has_undetermined
         self.lines: list[str] = []
         self.places: list[int] = []
         self.end = None if journal.is_there else (0, "no journal")  # why it ends before its end, and at which line
         self.left = [self.end] if self.end else []  # what is left out: its line and why
-        self.sinks: dict[Request, Message] = {}
-        self.messages: set[Message] = set()  # those of all sinks
+        self.undetermined: dict[Request, Message] = {}
+        self.messages: set[Message] = set()  # those that all undetermined receives may take
         self.pending: Pending | None = None
         self.starts: dict[int, Request] = {}  # the request that a place of the trace starts
         self.moved: dict[int, Moved] = {}  # what a receive that goes on in the next window may take, by its place
@@ -154,26 +154,27 @@ class List:
         for request in requests:
             heapq.heappush(self.free, self.active.pop(request))
 
-    # ---- Sinks and pending calls ----
+    # ---- Undetermined receives and pending calls ----
 
-    def messages_of_sinks(self) -> dict[int, Message]:
-        return {place: self.sinks[request] for place, request in self.starts.items() if request in self.sinks}
+    def undetermined_by_place(self) -> dict[int, Message]:
+        started = ((place, request) for place, request in self.starts.items() if request in self.undetermined)
+        return {place: self.undetermined[request] for place, request in started}
 
-    def start_sink(self, request: Request, number: int, message: list[str]) -> None:
-        """Nobody knows what it took, or it may have taken what an earlier one of these didn't."""
+    def start_undetermined(self, request: Request, number: int, message: list[str]) -> None:
+        """It isn't known what it took, or it may have taken what an earlier one of these didn't."""
         self.start("irecv", request, number, "null", 0)
-        self.sinks[request] = message_of(number, message)
-        self.messages.add(self.sinks[request])
+        self.undetermined[request] = message_of(number, message)
+        self.messages.add(self.undetermined[request])
 
     def overlaps(self, number: int, message: list[str]) -> bool:
-        """Whether it may take what a sink may."""
+        """Whether it may take what an undetermined receive may."""
         if message[0] == "null":
             return False
         return any(message_of(number, message).overlaps(one) for one in self.messages)
 
-    def is_sink(self, entry: Entry, number: int, message: list[str]) -> bool:
-        """Of a blocking receive or a probe: what nobody was told of ends the list, and so does one that overlaps
-        a sink; but as it went, if that came back, it is one more sink."""
+    def is_undetermined(self, entry: Entry, number: int, message: list[str]) -> bool:
+        """Of a blocking receive or a probe. It ends the list if its message isn't known, and also if that may have been
+        taken by an undetermined receive; but as it went, if it came back, it is one more of these."""
         is_untold = "any" in message
         if not is_untold and not self.overlaps(number, message):
             return False
@@ -185,7 +186,7 @@ class List:
         raise Left("never came back")
 
     def end_pending(self, entry: Entry, way: str, items: list[Item]) -> None:
-        if self.has_sinks and not entry.came_back and items:
+        if self.has_undetermined and not entry.came_back and items:
             self.pending = Pending(way, items)
 
     def end_wait(self, entry: Entry, way: str) -> NoReturn:
@@ -193,7 +194,7 @@ class List:
         if entry.came_back and way == "all":
             raise Left("not judged")
         items = [
-            self.sinks.get(one, self.active.get(one)) for one in (self.same.get(q, q) for q in entry.fields)
+            self.undetermined.get(one, self.active.get(one)) for one in (self.same.get(q, q) for q in entry.fields)
         ]
         known = [item for item in items if item is not None]
         self.end_pending(entry, way, known if way == "all" or len(known) == len(items) else [])
@@ -221,8 +222,8 @@ class List:
         comm, source, tag = entry.fields
         message = self.message(comm, source, tag, entry.reported("=got"))
         number = self.numbered(comm)
-        if self.is_sink(entry, number, message):
-            self.start_sink(entry.line, number, message)
+        if self.is_undetermined(entry, number, message):
+            self.start_undetermined(entry.line, number, message)
             self.leave("not judged")
         else:
             self.start_or_put(entry, "recv", number, *message)
@@ -239,10 +240,10 @@ class List:
             self.start("irecv", request, number, "null", 0)
             return
         is_untold = "any" in message and request not in self.journal.gone
-        if is_untold and not self.has_sinks:
+        if is_untold and not self.has_undetermined:
             raise Left("never told")
         if is_untold or request not in self.journal.gone and self.overlaps(number, message):
-            self.start_sink(request, number, message)
+            self.start_undetermined(request, number, message)
             self.leave("never told" if is_untold else "not judged")
         else:
             self.start("irecv", request, number, *message)
@@ -255,18 +256,18 @@ class List:
         sent, received = (entry.line, "send"), (entry.line, "receive")
         is_both = self.stands_for_its_start(entry)
         try:
-            is_sink = self.is_sink(entry, number, message)
+            is_undetermined = self.is_undetermined(entry, number, message)
         except Left:
             if self.pending:
                 pending, self.pending = self.pending, None
                 self.start("isend", sent, number, peer, tag, *size)
-                self.start_sink(received, number, message)
+                self.start_undetermined(received, number, message)
                 self.pending = Pending("all", [self.active[sent], *pending.items])
             raise
-        if is_both or is_sink:
+        if is_both or is_undetermined:
             self.start("isend", sent, number, peer, tag, *size)
-        if is_sink:
-            self.start_sink(received, number, message)
+        if is_undetermined:
+            self.start_undetermined(received, number, message)
             self.leave("not judged")
         elif is_both:
             self.start("irecv", received, number, *message)
@@ -285,11 +286,11 @@ class List:
         *request, comm, source, tag = entry.fields
         message = self.message(comm, source, tag, entry.reported("=got"))
         number = self.numbered(comm)
-        is_sink = self.is_sink(entry, number, message)
+        is_undetermined = self.is_undetermined(entry, number, message)
         if not self.stands_for_its_start(entry):
             self.put("probe", number, *message)
-        if request and is_sink:
-            self.start_sink(*request, number, message)
+        if request and is_undetermined:
+            self.start_undetermined(*request, number, message)
             self.leave("not judged")
         elif request:
             self.start("irecv", *request, number, *message)
@@ -303,15 +304,15 @@ class List:
     def wait(self, entry: Entry) -> None:
         if self.stands_for_its_start(entry):
             return
-        if self.has_sink_of(entry.fields):
+        if self.names_undetermined(entry.fields):
             self.end_wait(entry, "all")
         self.wait_for(self.standing(entry.fields))
 
-    def has_sink_of(self, requests: Iterable[Request]) -> bool:
-        return any(one in self.sinks for one in self.standing(requests))
+    def names_undetermined(self, requests: Iterable[Request]) -> bool:
+        return any(one in self.undetermined for one in self.standing(requests))
 
     def test(self, entry: Entry) -> None:
-        if self.passes_tests and not self.has_sink_of(entry.fields):
+        if self.passes_tests and not self.names_undetermined(entry.fields):
             self.late += [one for one in self.standing(entry.fields) if one in self.journal.sends]
             self.wait_for([one for one in self.standing(entry.fields) if one not in self.journal.sends])
         else:
@@ -324,9 +325,9 @@ class List:
         if self.stands_for_its_start(entry):
             return
         wanted = self.standing(chosen or entry.fields)
-        if self.has_sink_of(chosen or entry.fields):
+        if self.names_undetermined(chosen or entry.fields):
             self.end_wait(entry, "all")
-        named = [one for one in self.standing(entry.fields) if one not in self.sinks][:MOST_REQUESTS]
+        named = [one for one in self.standing(entry.fields) if one not in self.undetermined][:MOST_REQUESTS]
         if entry.word == "waitany" and len(entry.fields) > 1 and wanted and wanted[0] in named:
             self.put("waitany", named.index(wanted[0]), *(self.active[request] for request in named))
             self.complete(wanted)

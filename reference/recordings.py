@@ -37,7 +37,7 @@ class Recording:
                 self.groups,
                 [calls_of(one.lines) for one in self.lists],
                 [one.pending for one in self.lists],
-                [one.messages_of_sinks() for one in self.lists],
+                [one.undetermined_by_place() for one in self.lists],
                 eager,
             )
         return self._waits[eager]

@@ -76,20 +76,20 @@ def in_order(needs: Iterable[Need]) -> list[Need]:
 
 
 class Waits(Matches):
-    """`pending' by ranks, and `sinks', of each rank the places of undetermined receives with their messages."""
+    """`pending' by ranks, and `undetermined', of each rank the places of undetermined receives with their messages."""
 
     def __init__(
         self,
         groups: Sequence[Group],
         calls: list[list[Call]],
         pending: Sequence[Pending | None],
-        sinks: Sequence[dict[int, Message]],
+        undetermined: Sequence[dict[int, Message]],
         eager: int | None = None,
         barred: Iterable[int] = (),
     ) -> None:
         """The list of a rank that is barred ends with `open' in place of a call that never comes back."""
         super().__init__(groups, calls)
-        self.pending, self.sinks, self.eager, self.barred = pending, sinks, eager, set(barred)
+        self.pending, self.undetermined, self.eager, self.barred = pending, undetermined, eager, set(barred)
         self.asked = set(self.ranks)  # those that may be held; each other one may call anything
         self.ends = [one[-1].word for one in self.calls]
         self.stands = Positions(self, eager).stands
@@ -179,7 +179,7 @@ class Waits(Matches):
         rank, is_loose = need.rank, need.rank in self.loose
         if need.sent and need.call == LAST:
             comm, source, _, tag = need.sent
-            for place, message in self.sinks[rank].items():
+            for place, message in self.undetermined[rank].items():
                 if message.takes(comm, source, tag) and (place <= self.stands[rank] or is_loose):
                     return True
         return is_loose and not (need.call == LAST and self.ends[rank] == "finalize")
@@ -307,11 +307,11 @@ class Waits(Matches):
         rank, at = finding.places[0]
         call = self.calls[rank][at]
         if finding.kind == "request":
-            return self.ends[rank] == "open" or at in self.sinks[rank]
+            return self.ends[rank] == "open" or at in self.undetermined[rank]
         assert call.sent is not None
         comm, source, to, tag = call.sent
         receiver = self.groups[comm][to]
-        taken = any(one.takes(comm, source, tag) for one in self.sinks[receiver].values())
+        taken = any(one.takes(comm, source, tag) for one in self.undetermined[receiver].values())
         return self.ends[receiver] == "open" or taken
 
     # ---- Waves that disagree ----
@@ -328,9 +328,9 @@ class Waits(Matches):
         lengths = list(map(len, self.calls))
         calls = [one[:cut] + calls_of(["open"])[: cut < len(one)] for one, cut in zip(self.calls, cuts)]
         pending = [one if cut == length else None for one, cut, length in zip(self.pending, cuts, lengths)]
-        sinks = [{at: one for at, one in mine.items() if at < cut} for mine, cut in zip(self.sinks, cuts)]
+        undetermined = [{at: one for at, one in mine.items() if at < cut} for mine, cut in zip(self.undetermined, cuts)]
         barred = {rank for rank in self.ranks if cuts[rank] < lengths[rank]}
-        return Waits(self.groups, calls, pending, sinks, self.eager, barred)
+        return Waits(self.groups, calls, pending, undetermined, self.eager, barred)
 
     def _first_barred(self, rank: int) -> int:
         """The place of the first call that waits for a wave that disagrees, or how long its list is."""
