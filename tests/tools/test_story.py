@@ -72,14 +72,6 @@ class Statuses(Folders):
         found = self.judged(*FREE, faults=["judge"])
         self.assertEqual((found.status, found.title), (4, "out of memory"))
 
-    def test_one_question_by_unproved_code(self):
-        for ranks, asked in ((BOTH, "strict"), (MASKED, "went")):
-            with self.subTest(asked):
-                self.again()
-                self.run_of(*ranks)
-                found = Story(self.folder / "journal", Stored(), is_short=True)
-                self.assertEqual((found.status, found.verdicts()), (1, {asked: "hang"}))
-
     def test_doubts(self):
         title = "not judged: recorded calls may match {} recorded (without these: {})"
         free = title.format("3 calls that weren't", "free: every rank comes to its MPI_Finalize")
@@ -669,14 +661,6 @@ class Differing(Folders):
                                 "and the run hung")  # fmt: skip
         self.assertEqual(calls[:2], ["rank 1: MPI_Barrier at /a.py:2", "rank 2: MPI_Bcast at /a.py:3"])
         self.assertEqual(self.judged().status, 7)
-
-    def test_one_question_by_unproved_code(self):
-        """Who is held as it went, and then what differs: by one question more, where that holds ranks."""
-        for ranks, asked in ((("bcast 0 0 @1", "barrier 0 @2"), ["went", "strict"]), (("barrier 0 @1",) * 2, ["went"])):
-            self.again()
-            self.run_of(*ranks)
-            found = Story(self.folder / "journal", Stored(), is_short=True)
-            self.assertEqual((list(found.answers), found.title[:6] == "error:"), (asked, len(asked) > 1))
 
     def test_what_is_said_with_an_older_checker(self):
         """It knows no --held: then it isn't known which calls they are, nor whether the run hung."""
