@@ -67,13 +67,7 @@ def recorded_by(words: list[str]) -> Recording:
 
 
 def judge(asked: Asked, disk: Disk) -> Report:
-    recording = recording_of(asked, disk)
-    every = list(range(len(recording.lists)))
-    held = asked.ranks()
-    for rank in held or []:
-        if rank not in every:
-            raise Named(f"usage: --held names rank {rank}, and there are {len(every)} ranks", 3)
-    return recording.report(asked.number("--eager"), every if held == [] else held)
+    return recording_of(asked, disk).report(asked.number("--eager"), asked.ranks())
 
 
 # ---- The process ---------------------------------------------------------------------------------

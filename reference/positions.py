@@ -4,6 +4,7 @@ A rank moves on once all that its call needs is reached. The order in which rank
 """
 
 from collections import deque
+from collections.abc import Set
 
 from .matches import Matches, Place
 
@@ -19,10 +20,10 @@ def sends_alone(matches: Matches, rank: int, at: int, eager: int | None) -> bool
 
 
 class Positions:
-    """`stands` has of each rank how many calls it completes."""
+    """`stands` has of each rank how many calls it completes. It never completes one at a barred place."""
 
-    def __init__(self, matches: Matches, eager: int | None) -> None:
-        self.matches, self.eager = matches, eager
+    def __init__(self, matches: Matches, eager: int | None, barred: Set[Place] = frozenset()) -> None:
+        self.matches, self.eager, self.barred = matches, eager, barred
         self.stands = [0] * len(matches.calls)
         self.waiters: dict[Place | Wave, list[int]] = {}  # the ranks that wait for a call or a wave to be reached
         self.arrived: dict[Wave, int] = {}  # how many members have reached their call
@@ -35,7 +36,7 @@ class Positions:
     def _move(self, rank: int) -> None:
         """As far as it can."""
         last = len(self.matches.calls[rank]) - 1
-        while self.stands[rank] < last:
+        while self.stands[rank] < last and (rank, self.stands[rank]) not in self.barred:
             if blocker := self._blocker(rank):
                 self.waiters.setdefault(blocker, []).append(rank)
                 return

@@ -49,15 +49,15 @@ class Recording:
 
     # ---- The report ----
 
-    def report(self, eager: int | None = None, held: Iterable[int] | None = None) -> Report:
-        """The report with the places that it names; with which of some ranks are held, if these are asked for."""
+    def report(self, eager: int | None = None, asked: Iterable[int] | None = None) -> Report:
+        """The report with the places that it names; with which of some ranks are held, if that is asked."""
         waits = self.waits(eager)
         report = self.completed(waits.report(), waits)
-        if held is None:
+        if asked is None:
             return report
         calls = {one.text: [list(place) for place in one.places] for one in waits.findings}
-        asked = {"finding_calls": [calls[text] for text in strings(report["findings"])]}
-        return report | asked | {"held": waits.held_among(held)}
+        named = [calls[text] for text in strings(report["findings"])]
+        return report | {"finding_calls": named, "held": waits.held_among(asked)}
 
     def completed(self, report: Report, waits: Waits) -> Report:
         """A report of `check` with what `judge' says besides: what is left out, and the lines of the places."""

@@ -5,7 +5,7 @@ messages and requests. A receive whose message isn't known is undetermined: its 
 are known, and nothing waits for it.
 """
 
-from collections.abc import Iterable, Sequence
+from collections.abc import Iterable, Sequence, Set
 from copy import copy
 from dataclasses import dataclass
 from functools import cached_property
@@ -16,7 +16,7 @@ from .heads import Group
 from .matches import Matches, Place
 from .positions import Positions, sends_alone
 from .texts import spelled
-from .traces import ROOTED, Call, Envelope, calls_of
+from .traces import ROOTED, Call, Envelope
 
 LAST = 1 << 40  # as the call of a need, after all others: there is no such call
 
@@ -85,25 +85,27 @@ class Waits(Matches):
         pending: Sequence[Pending | None],
         undetermined: Sequence[dict[int, Message]],
         eager: int | None = None,
-        barred: Iterable[int] = (),
     ) -> None:
-        """The list of a rank that is barred ends with `open' in place of a call that never comes back."""
         super().__init__(groups, calls)
-        self.pending, self.undetermined, self.eager, self.barred = pending, undetermined, eager, set(barred)
-        self.asked = set(self.ranks)  # those that may be held; each other one may call anything
+        self.pending, self.undetermined, self.eager = pending, undetermined, eager
         self.ends = [one[-1].word for one in self.calls]
-        self.stands = Positions(self, eager).stands
+        self._spare_for: dict[tuple[int, Message], list[Place]] = {}
+        self._find_stands(frozenset())
+        self._find_held(self.ranks)
+
+    def _find_stands(self, barred: Set[Place]) -> None:
+        """Where runs end in which no rank gets past a barred place."""
+        self.barred = barred
+        self.stands = Positions(self, self.eager, barred).stands
         self.stuck = [rank for rank in self.ranks if not self.is_at_end(rank)]
         self._unmet: dict[int, list[Need]] = {}
-        self._spare_for: dict[tuple[int, Message], list[Place]] = {}
-        self._find_held()
 
-    def _find_held(self) -> None:
-        """The loose ranks are the fewest that let each other move on."""
-        self.loose = set(self.ranks) - self.asked
+    def _find_held(self, asked: Iterable[int]) -> None:
+        """The loose ranks are those that aren't asked, and the fewest others that let each other move on."""
+        self.loose = set(self.ranks) - set(asked)
         while more := {rank for rank in self.ranks if rank not in self.loose and self._is_loose(rank)}:
             self.loose |= more
-        waiting = {*self.stuck, *(rank for rank in self.ranks if self.is_at_pending(rank) or self.is_barred(rank))}
+        waiting = {*self.stuck, *(rank for rank in self.ranks if self.is_at_pending(rank))}
         self.held = sorted(waiting - self.loose)
 
     # ---- Needs ----
@@ -157,15 +159,14 @@ class Waits(Matches):
     def is_at_pending(self, rank: int) -> bool:
         return self.is_at_end(rank) and self.ends[rank] == "open" and self.pending[rank] is not None
 
-    def is_barred(self, rank: int) -> bool:
-        return rank in self.barred and self.is_at_end(rank)
-
     # ---- What may come ----
 
     def _is_loose(self, rank: int) -> bool:
+        if (rank, self.stands[rank]) in self.barred:
+            return False
         if not self.is_at_end(rank):
             return all(map(self.may_come, self.unmet(rank)))
-        if self.ends[rank] != "open" or rank in self.barred:
+        if self.ends[rank] != "open":
             return False
         pending = self.pending[rank]
         if pending is None:
@@ -174,8 +175,6 @@ class Waits(Matches):
         return all(come) if pending.is_of_all else any(come)
 
     def may_come(self, need: Need) -> bool:
-        if need.rank not in self.asked:
-            return True
         rank, is_loose = need.rank, need.rank in self.loose
         if need.sent and need.call == LAST:
             comm, source, _, tag = need.sent
@@ -220,7 +219,7 @@ class Waits(Matches):
         group = self.groups[message.comm]
         members = group if isinstance(message.source, str) else [group[message.source]]
         spare = {sender for sender, _ in self.spare_for(rank, message)}
-        may_send = {one for one in members if one in spare or self.ends[one] == "open" or one not in self.asked}
+        may_send = {one for one in members if one in spare or self.ends[one] == "open"}
         return sorted(may_send - {rank})
 
     def held_senders(self, rank: int, message: Message) -> list[int]:
@@ -318,27 +317,19 @@ class Waits(Matches):
 
     def held_among(self, asked: Iterable[int]) -> list[int]:
         """The held ranks of those that are asked, where a wave that disagrees never completes."""
-        among = self._barred_where_waves_disagree() if self.disagreeing else copy(self)
-        among.asked = set(asked)
-        among._find_held()
+        among, barred = copy(self), self.awaiting_disagreeing()
+        if barred:
+            among._find_stands(barred)
+        among._find_held(asked)
         return among.held
 
-    def _barred_where_waves_disagree(self) -> "Waits":
-        cuts = [self._first_barred(rank) for rank in self.ranks]
-        lengths = list(map(len, self.calls))
-        calls = [one[:cut] + calls_of(["open"])[: cut < len(one)] for one, cut in zip(self.calls, cuts)]
-        pending = [one if cut == length else None for one, cut, length in zip(self.pending, cuts, lengths)]
-        undetermined = [{at: one for at, one in mine.items() if at < cut} for mine, cut in zip(self.undetermined, cuts)]
-        barred = {rank for rank in self.ranks if cuts[rank] < lengths[rank]}
-        return Waits(self.groups, calls, pending, undetermined, self.eager, barred)
-
-    def _first_barred(self, rank: int) -> int:
-        """The place of the first call that waits for a wave that disagrees, or how long its list is."""
-        for at, call in enumerate(self.calls[rank]):
-            waits_for = self.requests(rank, at) if call.request is None and not call.is_in_wave else [at]
-            if call.request is None and any((rank, one) in self.disagreeing for one in waits_for):
-                return at
-        return len(self.calls[rank])
+    def awaiting_disagreeing(self) -> set[Place]:
+        """The places of the calls that wait for a wave that disagrees, and don't only start a call of it."""
+        found = {(rank, at) for rank, at in self.disagreeing if self.calls[rank][at].request is None}
+        for (rank, at), starts in self.started.items():
+            if any((rank, start) in self.disagreeing for start in starts):
+                found.add((rank, at))
+        return found
 
     @cached_property
     def disagreeing(self) -> set[Place]:

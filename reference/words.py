@@ -9,13 +9,16 @@ from .texts import MOST, Named
 
 # By commands: the options that have a value, those that have none, and what their paths are.
 VALUED = {
-    "check": ("--capacity", "--eager"), "lint": (), "judge": ("--eager", "--tests", "--calls"),
+    "check": ("--capacity", "--eager"), "lint": (), "judge": ("--eager", "--held-rank", "--tests", "--calls"),
     "close": ("--tests", "--calls"),
 }  # fmt: skip
 FLAGS = {"check": ("--json", "--progress"), "lint": (), "judge": ("--json", "--progress", "--held"), "close": ()}
 PATHS = {"check": "HEAD FILE.. or a FOLDER", "lint": "one FILE", "judge": "one FOLDER", "close": "a FOLDER and OUT"}
 TEXTS = {"-h": "help", "--help": "help", "-V": "version", "--version": "version"}
-RANGES = {"--capacity": (1, 1024, "records"), "--eager": (0, MOST, "bytes")}
+RANGES = {
+    "--capacity": (1, 1024, "a number of records"), "--eager": (0, MOST, "a number of bytes"),
+    "--held-rank": (0, 1023, "a rank"),
+}  # fmt: skip
 CHOICES = {"--tests": ("wait", "pass"), "--calls": ("strict", "went")}
 SEE = "mpiwait --help lists all words"
 
@@ -33,10 +36,10 @@ class Asked:
         return int(self.options[option]) if option in self.options else None
 
     def ranks(self) -> list[int] | None:
-        """Those of `--held=R,..'; all of them is an empty list."""
-        if "--held" not in self.options:
-            return None
-        return [int(rank) for rank in self.options["--held"].split(",") if rank]
+        """Those of which it is asked whether they are held: all that a run may have, unless some are named."""
+        if "--held-rank" in self.options:
+            return [int(rank) for rank in self.options["--held-rank"].split(",")]
+        return list(range(1024)) if "--held" in self.options else None
 
 
 class Wrong(Named):
@@ -71,13 +74,15 @@ def asked_of(command: str, words: list[str]) -> Asked:
             return Asked(command, text=f"{command}-{'h' if is_short else TEXTS[option]}")
         if not option:
             asked.paths.append(value)
+        elif option == "--held-rank":  # the one that may be given again
+            asked.options[option] = ",".join([*filter(None, [asked.options.get(option)]), value])
         elif option in asked.options:
             raise Wrong(f"{option} is given twice")
         else:
             asked.options[option] = value
     look_at_paths(asked)
-    if "--held" in asked.options and "--json" not in asked.options:
-        raise Wrong("--held adds to the report as JSON: give --json too")
+    if asked.ranks() is not None and "--json" not in asked.options:
+        raise Named("usage: --held adds to the report as JSON: give --json too", 3)
     return asked
 
 
@@ -87,6 +92,9 @@ def options_and_paths(command: str, words: list[str]) -> Iterator[tuple[str, str
     for word in left:
         if word == "--":
             yield from (("", path) for path in left)
+        elif command == "judge" and word.startswith("--held="):  # short for these
+            ranks = word.removeprefix("--held=").split(",")
+            yield from [("--held", ""), *(option_in(command, f"--held-rank={rank}", left) for rank in ranks)]
         elif not word.startswith("-") or word == "-":
             yield "", word
         else:
@@ -106,10 +114,7 @@ def option_in(command: str, word: str, left: Iterator[str]) -> tuple[str, str]:
         return option, value
     if option not in FLAGS[command]:
         raise Wrong(f"`{command}' has no option `{option}'; mpiwait {command} --help lists those that it has")
-    if option == "--held" and has_value:
-        if not re.fullmatch("[0-9]{1,9}(,[0-9]{1,9})*", value):
-            raise Wrong(f"--held takes ranks with commas between them, as 0,3, and not `{value}'")
-    elif has_value:
+    if has_value:
         raise Wrong(f"{option} takes no value")
     return option, value
 
@@ -120,7 +125,7 @@ def look_at_value(option: str, value: str) -> None:
     if option in RANGES:
         least, most, what = RANGES[option]
         if not re.fullmatch(r"\+?[0-9]+", value) or not least <= int(value[-400:]) <= most or len(value) > 400:
-            raise Wrong(f"{option} takes a number of {what} from {least} to {most}, and not `{value}'")
+            raise Wrong(f"{option} takes {what} from {least} to {most}, and not `{value}'")
 
 
 def look_at_paths(asked: Asked) -> None:

@@ -17,7 +17,6 @@ WRONG = {
     "lint r0 r1": "`lint' takes one FILE, and 2 paths were given",
     "lint --json r0": "`lint' has no option `--json'; mpiwait lint --help lists those that it has",
     "judge --tests maybe J": "--tests is wait or pass, and not `maybe'",
-    "judge --held J": "--held adds to the report as JSON: give --json too",
     "close J": "`close' takes a FOLDER and OUT, and 1 path was given",
     "frob": "there is no command or folder `frob'; mpiwait --help lists all words",
     "--frob": "there is no option `--frob'; mpiwait --help lists all words",

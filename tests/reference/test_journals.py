@@ -85,9 +85,9 @@ class Journals(unittest.TestCase):
         text += "finding request 0 2 2\nleft 0 2 never told\nleft 0 3 not judged\n"
         self.assertEqual(self.answer("judge", *ranks), (5, text, ""))
 
-    def held(self, *ranks, asked=""):
+    def held(self, *ranks, asked="", calls="went"):
         """Which ranks are held, of all or of those that are asked."""
-        words = f"judge --json --calls went --held{asked and '='}{asked}"
+        words = f"judge --json --calls {calls} --held{asked and '='}{asked}"
         return json.loads(self.answer(words, *ranks)[1])["held"]
 
     def test_who_is_held_where_calls_of_a_wave_differ(self):
@@ -105,8 +105,8 @@ class Journals(unittest.TestCase):
 
     def test_who_is_held_of_those_that_are_asked(self):
         ranks = ("recv 0 1 0", "finalize", "barrier 0", "bcast 0 0", "recv 0 any 3")
-        for asked, wanted in (("0", []), ("0,1", [0]), ("2", [2]), ("3,2", [2, 3]), ("4", []), ("4,1,0,2", [0, 2]),
-                              ("4,3,2,1,0", [0, 2, 3, 4]), ("", [0, 2, 3, 4])):  # fmt: skip
+        for asked, wanted in (("0", [0]), ("0,1", [0]), ("2", [2]), ("3,2", [2, 3]), ("4", []), ("4,1,0,2", [0, 2]),
+                              ("4,3,2,1,0", [0, 2, 3, 4]), ("", [0, 2, 3, 4]), ("2,9,1023", [2])):  # fmt: skip
             with self.subTest(asked):
                 self.assertEqual(self.held(*ranks, asked=asked), wanted)
 
@@ -134,10 +134,25 @@ class Journals(unittest.TestCase):
         del report["finding_calls"], report["held"]
         self.assertEqual(json.dumps(report, sort_keys=True, separators=(",", ":")) + "\n", plain)
 
+    def test_calls_of_open_lists_are_partners_after_a_barred_call(self):
+        """No list is cut: what comes after a call that waits for a wave that disagrees is no lacking call."""
+        ranks = "barrier 0 / recv 0 2 7 / finalize", "bcast 0 0 / finalize", "ssend 0 0 7 / finalize", "recv 0 1 9"
+        self.assertEqual(self.held(*ranks, calls="strict"), [0, 1, 2, 3])
+        self.assertEqual(self.held(*ranks, calls="strict", asked="2,3"), [3])
+
+    def test_words_of_held(self):
+        ranks = "barrier 0", "bcast 0 0"
+        for words, wanted in (("--held", [0, 1]), ("--held-rank 1", [1]), ("--held --held-rank=0", [0]),
+                              ("--held=1 --held-rank 0", [0, 1]), ("--held-rank=1023", [])):  # fmt: skip
+            said = self.answer(f"judge --json --calls went {words}", *ranks)[1]
+            self.assertEqual(json.loads(said)["held"], wanted)
+
     def test_wrong_words_of_held(self):
-        for words in ("--held", "--json --held=", "--json --held=0,", "--json --held=x", "--json --held=0,2"):
+        for words in ("--json --held=", "--json --held=0,", "--json --held=x", "--json --held=0,1024", "--json --held --held",
+                      "--json --held-rank", "--json --held-rank=0,1", "--held", "--held-rank 0"):  # fmt: skip
             with self.subTest(words):
-                self.assertEqual(self.answer(f"judge {words}", "finalize", "finalize")[:2], (3, ""))
+                status, said, why = self.answer(f"judge {words}", "finalize", "finalize")
+                self.assertEqual((status, said, why.partition(":")[0]), (3, "", "mpiwait" if "json" in words else "usage"))
 
     def test_faults(self):
         ranks = "finalize", "barrier 0 / foo"

@@ -37,7 +37,7 @@ class Rows(unittest.TestCase):
         self.assertEqual(status, row.status)
         if is_usage(row):
             self.assertEqual(said, b"")
-            self.assertRegex(err, "^mpiwait: .*\n$")
+            self.assertRegex(err, "^(mpiwait|usage): .*\n$")
         elif "begins" in row.marks:
             self.assertTrue(said.startswith(row.out) and complained.startswith(row.err))
         elif marks := row.marks.keys() & {"has", "has-end"}:

@@ -98,13 +98,12 @@ class Alarm:
         return True
 
     def _held(self, run: Run, still: Iterable[int]) -> tuple[View | None, set[int]]:
-        """Which of the ranks that stand still wait for ever, whatever calls the others make, and a view of
-        all. Only they may be held, and ranks that called MPI_Finalize, of which all calls are known."""
+        """Which of the ranks that stand still inside a call wait for ever, whatever calls the others make, and
+        a view of all. Only they may be held: a rank that called MPI_Finalize makes no further call anyway."""
         still = {rank for rank in still if not run.journals[rank].header.is_multiple}  # else threads may call
         if not still or run.count("P"):
             return None, set()
-        over = {one.rank for one in run.journals if one.last and one.last.word == "finalize"}
-        answer = self.judge.ask_held(run.folder, still | over, calls="went")
+        answer = self.judge.ask_held(run.folder, still, calls="went")
         if not self.judge.knows_held:
             self.is_off = True
             say(f"nothing is reported before the run ends: this needs a newer checker than {self.judge.path}")
