@@ -624,7 +624,17 @@ class Differing(Folders):
         title, calls, _ = self.said(*ranks)
         self.assertIn("the root of MPI_Bcast on the communicator of /a.py:1; this run completed", title)
         self.assertEqual(calls[:3], ["the 1st collective on the communicator of /a.py:1:",
-                                     "    rank 2: MPI_Bcast at /a.py:3 with root 0", "    rank 1: MPI_Bcast at /a.py:4 with root 1"])  # fmt: skip
+                                     "    rank 1: MPI_Bcast at /a.py:4 with root 1", "    rank 2: MPI_Bcast at /a.py:3 with root 0"])  # fmt: skip
+
+    def test_all_members_of_another_communicator(self):
+        """Ranks have numbers of their own for it, and there are several with these members."""
+        made = "{0}comm_dup 0 @1 / =comm {1} 0 1 2 / comm_dup 0 @2 / =comm {2} 0 1 2 / barrier {1} @5 / "
+        ranks = [made.format("", 2, 3) + "gather 3 0 @3", made.format("comm_dup 1 @9 / =comm 2 1 / ", 7, 5) + "gather 5 0 @3",
+                 made.format("", 4, 8) + "gather 8 2 @4"]  # fmt: skip
+        title, calls, _ = self.said(*ranks)
+        self.assertIn("the root of MPI_Gather on the communicator of /a.py:2, and the run hung", title)
+        self.assertEqual(calls[:3], ["the 1st collective on the communicator of /a.py:2:",
+                                     "    ranks 0 and 1: MPI_Gather at /a.py:3 with root 0", "    rank 2: MPI_Gather at /a.py:4 with root 2"])  # fmt: skip
 
     def test_another_group(self):
         made = "comm_split 0 0 0 @1 / =comm 2 {} / recv 2 null 0 @2 / finalize"

@@ -56,17 +56,18 @@ class Disagreement:
 
     def all_calls(self) -> dict[int, Call]:
         """Also those of ranks that agree with the first member, as far as they can be looked up."""
-        place, others = self.place(), set(self.run.ranks) - set(self.calls)
-        if not place or self.comm != 0 or len(self.run.ranks) > MOST_RANKS:
+        place = self.place()
+        if not place or len(self.run.ranks) > MOST_RANKS:
             return self.calls
-        lines = {rank: self.run.collectives(rank, 0)[place - 1 : place] for rank in others}
+        comms = self.run.same(self.first.rank, self.first.comm)
+        lines = {rank: self.run.collectives(rank, comm)[place - 1 : place] for rank, comm in comms.items()}
         found = {rank: self.run.calls(rank, some)[some[0]] for rank, some in lines.items() if some}
-        return dict(sorted((self.calls | found).items()))
+        return dict(sorted((found | self.calls).items()))
 
     def parties(self) -> list[str]:
         """Who calls what, in words: ranks with the same call share a line."""
         def key(call: Call) -> tuple:
-            return call.where or call.rank, call.name, call.root
+            return call.where or call.rank, call.name, call.root if self.kind == "root" else None
 
         groups = grouped(self.all_calls().values(), key)
         ranks = [ranks_named(call.rank for call in group) for group in groups]

@@ -10,7 +10,7 @@ import os
 import re
 import resource
 from collections import namedtuple
-from collections.abc import Iterator
+from collections.abc import Iterable, Iterator
 from contextlib import suppress
 from pathlib import Path
 
@@ -222,6 +222,12 @@ class Journal:
         entry = self._call_at(place)
         before = b" @%d\n=comm " % entry.site if entry and entry.site else None
         return tuple(map(int, fields)), entry, self.data[: found.start()].count(before) if before else 0
+
+    def numbers_of(self, members: Iterable[int]) -> list[int]:
+        """The rank's numbers of all communicators with these members, in the order in which they came."""
+        group = " ".join(map(str, members)).encode()
+        form = rb"\n=(?:(?:comm|apart) (\d+)|idup (\d+) \d+) %b(?=\n)" % group
+        return [int(found[1] or found[2]) for found in re.finditer(form, self.data[: self.end] or b"")]
 
     def sites(self):
         """The places in the program: lists of frames, by number."""

@@ -66,6 +66,17 @@ class Run:
             return (rank,) if comm else tuple(self.ranks), None, 0
         return self.journals[rank].made(comm)
 
+    def same(self, rank: int, comm: int) -> dict[int, int]:
+        """The numbers that the members of a rank's communicator have for it, as far as they know it."""
+        members = self.made(rank, comm)[0]
+        if comm < 2:
+            return dict.fromkeys(members, comm)
+        numbers = {member: self.journals[member].numbers_of(members) for member in members}
+        if comm not in numbers[rank]:
+            return {}
+        place = numbers[rank].index(comm)  # all members get those of one group in the same order
+        return {member: some[place] for member, some in numbers.items() if some[place:]}
+
     def unmatched(self, rank: int, other: int) -> list[tuple[Call, Half]]:
         """What a rank sends to another one, and no receive there takes, by source, tag and communicator."""
         taken, found = self.received(other), []
