@@ -55,7 +55,7 @@ def words_of(argv):
     parser = Words(TEXT, prog="mpiwait run", usage="mpiwait run [OPTIONS] (COMMAND .. | --again)")
     add = parser.add_argument
     add("--again", action="store_true", help="judge the recording in FOLDER, and run nothing")
-    add("--version", action=ShowVersion, nargs=0)
+    add("--version", action=ShowVersion, nargs=0, help="show the version")
     add("--unproved", action="store_true", help="judge by the reference, if no proved program is built")
     add("--folder", type=Path, default="mpiwait-run", help="where the recording goes")
     add_times(add)
@@ -205,7 +205,7 @@ def try_limits(runs):
 
 def limits_main(argv):
     parser = Words(LIMITS, prog="mpiwait limits")
-    parser.add_argument("--version", action=ShowVersion, nargs=0)
+    parser.add_argument("--version", action=ShowVersion, nargs=0, help="show the version")
     parser.add_argument("folder", metavar="FOLDER", type=Path)
     folder = parser.parse_args(argv).folder
     if (folder / "journal").is_dir():
