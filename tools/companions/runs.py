@@ -223,7 +223,8 @@ class View:
     def _may_have_taken(self, rank: int, other: int, comm: int, tag: str) -> bool:
         """Whether a call of a rank may have taken what another one sent to it."""
         members = self.run.made(other, comm)[0]
-        return self.run.journals[rank].may_take(comm, members.index(other) if other in members else other, tag)
+        peer = members.index(other) if other in members else other
+        return self.run.journals[rank].may_take(comm, peer, tag)
 
     def rests_on(self, words):
         """Whether ranks wait in such calls, or for what such calls started."""

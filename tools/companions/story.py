@@ -25,8 +25,8 @@ HANG = " No buffer would cure this: it hangs too if all messages are buffered."
 # The names of standard sends, and what is said if a cause names one that no rank waits for.
 STANDARD_NAMES = re.compile("MPI_(?:I?[Rr]?[Ss]end|I?[Ss]endrecv)\\b")
 NO_WAIT = "No buffer would cure this: no rank waits until a standard send is received."
-NOT_COMPARED = ("Not compared: the operators, datatypes and counts of collectives, their forms with and without "
-                "v, and the datatypes and counts of messages.")  # fmt: skip
+NOT_COMPARED = ("Not compared: the operators, datatypes and counts of collectives, their forms with and "
+                "without v, and the datatypes and counts of messages.")  # fmt: skip
 UNFORCED = ("{} on waits for nonblocking collectives ({}). A strict run can't force these to wait for all "
             "members: MPI lets those that don't need all data complete sooner.")  # fmt: skip
 THREADS = ("With MPI_THREAD_MULTIPLE another thread of a rank may call MPI while one waits: nothing is known "
