@@ -22,7 +22,7 @@ TEXT = """Records a run of an MPI program, judges it, and reports which calls wa
     mpiwait run [OPTIONS] --again
 
 The status is 0 free, 1 hang, 2 refused, 3 words, folder or installation, 4 something couldn't be recorded,
-judged or written, 5 unfinished, 6 not judged, 7 calls or roots of one collective differ, 8 the program
+judged or written, 5 unfinished, 6 not judged, 7 the ranks disagree on a collective call, 8 the program
 failed. MPIWAIT names a checker."""
 # The lines of a window, by default and at most; a journal has 1,000,000 calls. With 0 there are no windows.
 LINES, MOST_LINES = 200_000, 800_000
