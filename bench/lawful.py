@@ -3,12 +3,12 @@ import json
 import os
 import pathlib
 import subprocess
-import types
 
 from importlib.machinery import SourceFileLoader
+from importlib.util import module_from_spec, spec_from_loader
 
 LOADER = SourceFileLoader("bench_random", str(pathlib.Path(__file__).resolve().parent / "random"))
-RANDOM = types.ModuleType(LOADER.name)
+RANDOM = module_from_spec(spec_from_loader(LOADER.name, LOADER))
 LOADER.exec_module(RANDOM)
 LEVEL = 15
 

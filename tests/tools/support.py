@@ -12,7 +12,7 @@ from pathlib import Path
 
 TOP = Path(__file__).resolve().parents[2]
 TOOLS = TOP / "tools"
-sys.path[:0] = [str(TOOLS), str(TOP / "bench")]
+sys.path[:0] = [str(TOOLS), str(TOP / "bench"), str(TOP)]
 sys.dont_write_bytecode = True
 
 from companions.story import Story  # noqa: E402

@@ -3,8 +3,8 @@
 import unittest
 
 from support import TOP, Folders, journal, script
-from journal_faults import WORDS as ALL_WORDS
-from journal_faults import Fault, check, lines_of
+from reference.journal_faults import WORDS as ALL_WORDS
+from reference.journal_faults import Fault, check, lines_of
 
 CHECK_JOURNALS = script("check-journals", TOP / "bench")
 

@@ -1,11 +1,12 @@
-"""What bench/journals.py makes of journals that end with `cut', and how bench/cuts cuts runs into them."""
+"""What the reference makes of journals that end with `cut', and how bench/cuts cuts runs into them."""
 
 import random
 import unittest
 
 from support import TOP, Folders, journal, script
+from reference.command_line import recorded_by
+from reference.texts import Named
 
-JOURNALS = script("journals.py", TOP / "bench")
 CUTS = script("cuts", TOP / "bench")
 
 # Runs whose cut is clean: what each rank calls, with `|' at the cut, and both windows' traces. A request that moves
@@ -130,8 +131,8 @@ class Cuts(Folders):
 
     def traces(self, folder, *words):
         try:
-            recording = JOURNALS.Recording(JOURNALS.words_of([*words, str(folder)] if words else ["close", str(folder), "OUT"]))
-        except JOURNALS.Named as named:
+            recording = recorded_by([*words, str(folder)] if words else ["close", str(folder), "OUT"])
+        except Named as named:
             return named.args[0]
         return [" / ".join(one.lines) for one in recording.lists]
 
@@ -159,11 +160,11 @@ class Cuts(Folders):
         self.assertEqual(self.traces(windows.first), ["irecv 0 0 null 0 / barrier 0 / finalize", "barrier 0 / finalize"])
         self.assertEqual(self.traces(windows.second, "judge"), ["irecv 0 0 null 0 / open", "barrier 0 / open"])
         for calls in ("strict", "went"):
-            wrong, what = CUTS.difference(CUTS.Asked(TOP / "bench/journals.py"), windows, ["--calls", calls])
+            wrong, what = CUTS.difference(CUTS.Asked(TOP / "reference/mpiwait"), windows, ["--calls", calls])
             self.assertEqual((wrong, what), ("", "free, then hang"))
 
     def asked(self, windows, calls):
-        return CUTS.difference(CUTS.Asked(TOP / "bench/journals.py"), windows, ["--calls", calls])
+        return CUTS.difference(CUTS.Asked(TOP / "reference/mpiwait"), windows, ["--calls", calls])
 
     def test_three_windows(self):
         """The receive goes on twice."""
@@ -188,7 +189,7 @@ class Cuts(Folders):
     def test_windows_that_say_something_else_are_found(self):
         run, places = self.whole(["send 0 1 0 / | / recv 0 1 1 / finalize", "recv 0 0 0 / | / finalize"])
         windows = CUTS.Windows(run, places, random.Random(1))
-        path, judge, words = windows.second / "journal0", TOP / "bench/journals.py", ["--calls", "strict"]
+        path, judge, words = windows.second / "journal0", TOP / "reference/mpiwait", ["--calls", "strict"]
         self.assertEqual(CUTS.difference(CUTS.Asked(judge), windows, words), ("", "free, then hang"))
         path.write_text(path.read_text().replace("recv 0 1 1\n", ""))
         wrong, _ = CUTS.difference(CUTS.Asked(judge), windows, words)
@@ -205,7 +206,7 @@ class Cuts(Folders):
 
     def test_a_cut_of_some_ranks_alone(self):
         self.assertEqual(self.closed("barrier 0 / cut", "barrier 0 / finalize"), ["barrier 0 / open", "barrier 0 / finalize"])
-        recording = JOURNALS.Recording(JOURNALS.words_of(["judge", str(self.folder / "J")]))
+        recording = recorded_by(["judge", str(self.folder / "J")])
         self.assertEqual(recording.left(), [[0, 3, "cut"]])
 
     def test_a_wait_that_failed_completes_no_receive_that_goes_on(self):
@@ -218,21 +219,21 @@ class Cuts(Folders):
             with self.subTest(seed):
                 self.again()
                 CUTS.put_run(self.folder / "J", seed)
-                JOURNALS.Recording(JOURNALS.words_of(["judge", str(self.folder / "J")]))
+                recorded_by(["judge", str(self.folder / "J")])
 
     def test_a_request_of_a_window_is_no_finding(self):
         self.closed("ibarrier 1 0 / cut", "ibarrier 1 0 / cut")
-        recording = JOURNALS.Recording(JOURNALS.words_of(["judge", str(self.folder / "J")]))
+        recording = recorded_by(["judge", str(self.folder / "J")])
         self.assertTrue(recording.is_left_out("request 0 0 0"))
         self.closed("ibarrier 1 0 / finalize", "ibarrier 1 0 / finalize")
-        recording = JOURNALS.Recording(JOURNALS.words_of(["judge", str(self.folder / "J")]))
+        recording = recorded_by(["judge", str(self.folder / "J")])
         self.assertFalse(recording.is_left_out("request 0 0 0"))
 
     def test_tests_that_wait_for_nothing(self):
         ranks = ["isend 1 0 1 0 / test 1 / recv 0 1 0 / cut", "isend 1 0 0 0 / test 1 / recv 0 0 0 / cut"]
         self.closed(*ranks)
-        words = JOURNALS.words_of(["close", "--tests", "pass", str(self.folder / "J"), "OUT"])
-        self.assertEqual(JOURNALS.Recording(words).lists[0].lines,
+        recording = recorded_by(["close", "--tests", "pass", str(self.folder / "J"), "OUT"])
+        self.assertEqual(recording.lists[0].lines,
                          ["isend 0 0 1 0", "recv 0 1 0", "wait 0", "finalize"])  # fmt: skip
 
     def test_a_cut_that_is_not_clean_is_found(self):

@@ -5,7 +5,7 @@ import unittest
 from unittest import mock
 
 from support import TOP, script
-from journal_faults import FORMS, check, lines_of
+from reference.journal_faults import FORMS, check, lines_of
 import answers
 
 HOSTILE = script("hostile", TOP / "bench")

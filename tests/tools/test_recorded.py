@@ -252,10 +252,13 @@ class Places(Folders):
             found = places.Places([mock.Mock(sites=lambda: frames)])
             found.look_up([(0, site) for site in frames])
             self.assertEqual(found.where(0, 7), "x1+0x7")
-        self.assertEqual(run.call_count, 2)
+        asked = [called.args[0] for called in run.call_args_list]
+        self.assertEqual(sorted(words[0] for words in asked), ["addr2line"] * 2 + ["nm"] * 4)  # with -D too
 
     def test_no_line(self):
-        self.assertEqual(self.found("0x1f\nsolve(int)\n??:0\n"), "solve(int) (x.so+0x20)")
+        """The nearest symbol needn't be that of the function; one that contains the place is."""
+        self.assertEqual(self.found("0x1f\nsolve(int)\n??:0\n"), "x.so+0x20")
+        self.assertEqual(self.found("10 10 T solve(int)\n"), "solve(int) (x.so+0x20)")
         self.assertEqual(self.found("0x1f\n??\n??:0\n"), "x.so+0x20")
         self.assertEqual(self.found("", "/lib/z\n.so+0x20"), "z\\n.so+0x20")
 

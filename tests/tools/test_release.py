@@ -4,6 +4,7 @@ They want no program and no MPI: the help is that of tools/texts, which `tools/t
 program's own.
 """
 
+import hashlib
 import re
 import shutil
 import subprocess
@@ -178,8 +179,13 @@ class Script(unittest.TestCase):
         folder = tempfile.TemporaryDirectory()
         self.addCleanup(folder.cleanup)
         self.top = Path(folder.name)
-        for name in ("bin", "libexec"):
-            (self.top / name).mkdir()
+        for name in ("bin", "libexec", "tools/companions", "tools/texts"):
+            (self.top / name).mkdir(parents=True)
+        for name in ("companions/words.sh", "texts/commands"):
+            shutil.copy(TOP / "tools" / name, self.top / "tools" / name)
+        for name in ("run", "limits"):
+            (self.top / "tools" / name).write_text(f"#!/bin/sh\necho tools/{name} $*\nexit 7\n")
+            (self.top / "tools" / name).chmod(0o755)
         self.script = self.top / "bin/mpiwait"
         shutil.copy(TOP / "release/mpiwait", self.script)
         self.program = self.top / "libexec/mpiwait"
@@ -191,20 +197,37 @@ class Script(unittest.TestCase):
         return said.returncode, said.stdout.split("\n")[:-1]
 
     def test_the_words_are_the_programs(self):
-        for words in ([], [""], ["run"], ["check", "--json", "a run"], ["lint", "--", "-x"], ["--help"]):
+        for words in (["bin"], ["check", "--json", "a run"], ["lint", "--", "-x"], ["--version"], ["check", "--help"]):
             self.assertEqual(self.run_script(*words), (5, [f"<{word}>" for word in words]))
 
+    def test_the_tools_are_commands(self):
+        self.assertEqual(self.run_script("run", "mpirun", "./a"), (7, ["tools/run mpirun ./a"]))
+        self.assertEqual(self.run_script("limits", "run"), (7, ["tools/limits run"]))
+        (self.top / "run").mkdir()
+        self.assertEqual(self.run_script("run"), (5, ["<run>"]))
+
+    def test_the_help_lists_all_commands(self):
+        for word in ("-h", "--help"):
+            status, said = self.run_script(word)
+            self.assertEqual(status, 0)
+            for command in ("run", "limits", "check", "lint", "judge", "close", "build"):
+                self.assertTrue(any(line.startswith(f"  {command} ") for line in said))
+
+    def test_wrong_words(self):
+        for words in ([], [""], ["/nonexistent"], ["--frob"], ["check", "--eager", "4k", "."], ["build"]):
+            self.assertEqual(self.run_script(*words), (3, []))
+
     def test_the_program_answers_also_where_unproved_code_may(self):
-        self.assertEqual(self.run_script("--unproved", "run"), (5, ["<run>"]))
+        self.assertEqual(self.run_script("--unproved", "bin"), (5, ["<bin>"]))
         self.assertEqual(self.run_script("check", "--unproved"), (5, ["<check>", "<--unproved>"]))
 
     def test_its_own_failures_are_no_verdict(self):
         self.program.unlink()
-        self.assertEqual(self.run_script("--help"), (4, []))
+        self.assertEqual(self.run_script("--version"), (4, []))
 
     @unittest.skipUnless(shutil.which("shellcheck"), "there is no shellcheck")
     def test_shellcheck_finds_nothing(self):
-        said = subprocess.run(["shellcheck", self.script], capture_output=True, text=True)
+        said = subprocess.run(["shellcheck", "-x", TOP / "release/mpiwait"], capture_output=True, text=True, cwd=TOP)
         self.assertEqual(said.stdout, "")
 
 
@@ -246,8 +269,15 @@ class Make(unittest.TestCase):
         cls.program = Path(folder.name) / "program"
         compile = ["gcc", "-x", "c", "-w", f'-DTEXTS="{TEXTS}"', "-o", cls.program, "-"]
         subprocess.run(compile, input=PROGRAM, text=True, check=True)
+        cls.note_build()
         cls.log = Path(folder.name) / "log"
         cls.archive, cls.info = cls.packed()
+
+    @classmethod
+    def note_build(cls):
+        """As `mpiwait build' does."""
+        digest = hashlib.sha256(cls.program.read_bytes()).hexdigest()
+        Path(f"{cls.program}.made").write_text(f"kit rattle-kit-13f logic 0\nsha256 {digest}\n")
 
     @classmethod
     def git(cls, *words):
@@ -272,9 +302,31 @@ class Make(unittest.TestCase):
         self.assertEqual(self.packed()[0], self.archive)
 
     def test_build_info(self):
-        self.assertIn("not built by this script", self.info)
+        self.assertIn("kit       rattle-kit-13f logic 0\nprogram   proved and built by `mpiwait build'\n", self.info)
         self.assertIn("no log of the gate was given", self.info)
         self.assertRegex(self.info, r"C library +at least GLIBC_2\.\d+")
+
+    def test_a_program_that_no_build_made(self):
+        Path(f"{self.program}.made").unlink()
+        self.addCleanup(self.note_build)
+        said = self.make("--program", self.program)
+        self.assertEqual(said.returncode, 4)
+        self.assertIn("--unproved-program packs it all the same", said.stderr)
+        said = self.make("--unproved-program", self.program)
+        self.assertRegex(said.stdout, r"/mpiwait-[0-9.]+-unproved-linux-x86_64\.tar\.xz\n$")
+        taken = ["tar", "-xO", "-f", said.stdout.strip(), "--wildcards", "*/BUILD-INFO"]
+        info = subprocess.run(taken, capture_output=True, text=True, check=True).stdout
+        self.assertIn("kit       not known\nprogram   NOT PROVED: it was given as a file\n", info)
+
+    def test_it_is_installed(self):
+        with tempfile.TemporaryDirectory() as folder:
+            for _ in range(2):
+                said = self.make("--program", self.program, "--install", folder)
+                self.assertEqual((said.returncode, said.stdout), (0, f"{folder}/lib/mpiwait\n"))
+            ran = subprocess.run([f"{folder}/bin/mpiwait", "--help"], capture_output=True, text=True, check=False)
+            self.assertIn("  limits  ", ran.stdout)
+            for name in ("man/man1/mpiwait.1", "bash-completion/completions/mpiwait", "zsh/site-functions/_mpiwait"):
+                self.assertGreater(Path(folder, "share", name).stat().st_size, 0)
 
     def test_the_documents_link_to_what_is_packed(self):
         with tempfile.TemporaryDirectory() as folder:

@@ -39,8 +39,20 @@ class Words(Folders):
 
     def test_right_ones(self):
         words = run.words_of(["--eager", "8", "--stop", "--", "mpirun", "-n", "4", "./a", "--eager"])
-        self.assertEqual((words.eager, words.stop, words.quiet), (8, True, 10))
+        self.assertEqual((words.eager, words.stop, words.stalled), (8, True, 10))
         self.assertEqual(words.command, ["mpirun", "-n", "4", "./a", "--eager"])
+
+    def test_old_names(self):
+        for names in (("--timeout", "--stalled"), ("--for", "--quiet")):
+            words = run.words_of([names[0], "7", names[1], "3", "mpirun", "./a"])
+            self.assertEqual((words.limit, words.stalled, words.command), (7, 3, ["mpirun", "./a"]))
+
+    def test_a_folder_of_the_programs_own_is_said_first(self):
+        """Before anything is built or run."""
+        self.write("own", "")
+        done = self.command("run", "--folder", "own", "mpirun", "-n", "4", "./nothing", env=os.environ | CHECKER)
+        self.assertEqual((done.returncode, done.stdout), (3, ""))
+        self.assertIn("no run made it: name another by --folder", done.stderr)
 
     def test_a_program_that_is_nothing(self):
         done = self.command("run", "./nothing", env=os.environ | CHECKER)
@@ -50,9 +62,17 @@ class Words(Folders):
     def test_help(self):
         done = self.command("run", "--help", env=os.environ | CHECKER)
         self.assertEqual(done.returncode, 0)
-        for option in ("again", "eager", "folder", "for", "frames", "html", "json", "junit", "mpi", "quiet", "sarif", "stop",
-                       "strict", "svg", "unproved"):  # fmt: skip
+        for option in ("again", "eager", "folder", "frames", "html", "json", "junit", "mpi", "sarif", "stalled", "stop",
+                       "strict", "svg", "timeout", "unproved", "version"):  # fmt: skip
             self.assertIn(f"--{option}", done.stdout)
+        for option in ("--for", "--quiet"):
+            self.assertNotIn(option, done.stdout)
+        self.assertIn("usage: mpiwait run [OPTIONS]", done.stdout)
+
+    def test_the_version(self):
+        for name in ("run", "limits"):
+            done = self.command(name, "--version")
+            self.assertEqual((done.returncode, done.stdout), (0, (TOP / "tools/texts/version").read_text()))
 
 
 class Again(Folders):

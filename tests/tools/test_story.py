@@ -54,7 +54,7 @@ class Statuses(Folders):
         self.again()
         self.assertEqual(self.judged(*BOTH, program_status=3).status, 1)
         self.again()
-        self.assertEqual(self.judged("barrier 0 @1", "barrier 0 @1", program_status=3).status, 5)
+        self.assertEqual(self.judged("barrier 0 @1", "barrier 0 @1", program_status=3).status, 8)
 
     def test_questions_that_fail(self):
         title = "Unanswered questions"
@@ -71,14 +71,6 @@ class Statuses(Folders):
         self.again()
         found = self.judged(*FREE, faults=["judge"])
         self.assertEqual((found.status, found.title), (4, "out of memory"))
-
-    def test_one_question_by_unproved_code(self):
-        for ranks, asked in ((BOTH, "strict"), (MASKED, "went")):
-            with self.subTest(asked):
-                self.again()
-                self.run_of(*ranks)
-                found = Story(self.folder / "journal", Stored(), is_short=True)
-                self.assertEqual((found.status, found.verdicts()), (1, {asked: "hang"}))
 
     def test_doubts(self):
         title = "not judged: recorded calls may match {} recorded (without these: {})"
@@ -124,7 +116,7 @@ class Statuses(Folders):
         from companions.script import worst
 
         for statuses, wanted in (
-            ((0, 8, 5), 5),
+            ((0, 8, 5), 8),
             ((0, 5, 7), 7),
             ((7, 6), 6),
             ((6, 1), 1),
@@ -670,14 +662,6 @@ class Differing(Folders):
         self.assertEqual(calls[:2], ["rank 1: MPI_Barrier at /a.py:2", "rank 2: MPI_Bcast at /a.py:3"])
         self.assertEqual(self.judged().status, 7)
 
-    def test_one_question_by_unproved_code(self):
-        """Who is held as it went, and then what differs: by one question more, where that holds ranks."""
-        for ranks, asked in ((("bcast 0 0 @1", "barrier 0 @2"), ["went", "strict"]), (("barrier 0 @1",) * 2, ["went"])):
-            self.again()
-            self.run_of(*ranks)
-            found = Story(self.folder / "journal", Stored(), is_short=True)
-            self.assertEqual((list(found.answers), found.title[:6] == "error:"), (asked, len(asked) > 1))
-
     def test_what_is_said_with_an_older_checker(self):
         """It knows no --held: then it isn't known which calls they are, nor whether the run hung."""
         self.run_of("bcast 0 0 @1", "barrier 0 @2")
@@ -741,7 +725,7 @@ class Strict(Folders):
 
     def test_only_some_ranks(self):
         said = self.sections("finalize", "finalize", after={0: " strict"})["What this assumes"]
-        self.assertEqual(said, ["Only rank 0 ran strictly, so this is reported as a run that wasn't strict."])
+        self.assertEqual(said[0], "Only rank 0 ran strictly, so this is reported as a run that wasn't strict.")
 
     def test_nonblocking_collectives(self):
         said = self.assumed("ibcast 1 0 0 @1 / wait 1 @2 / send 0 1 0 4 / finalize",

@@ -484,8 +484,7 @@ class Commands(Cut):
         self.assertEqual(self.limits(HANG, None, LAST, noted='{"judged": 1, "later": 1}'), gone)
 
     def test_words(self):
-        for words in (["--window", "-1", "x"], ["--window", "900000", "x"], ["--window", "9", "--unproved", "x"],
-                      ["--again", "--window", "9"]):  # fmt: skip
+        for words in (["--window", "-1", "x"], ["--window", "900000", "x"], ["--again", "--window", "9"]):
             with self.subTest(words), mock.patch.dict(os.environ), contextlib.redirect_stderr(io.StringIO()):
                 os.environ.pop("MPIWAIT", None)
                 with self.assertRaises(Stopped):
@@ -493,7 +492,7 @@ class Commands(Cut):
         with mock.patch.dict(os.environ):
             os.environ.pop("MPIWAIT", None)
             asked = (["x"], ["--window", "0", "x"], ["--window", "9", "x"], ["--unproved", "x"], ["--again"])
-            self.assertEqual([run.words_of(words).window for words in asked], [200_000, 0, 9, 0, 0])
+            self.assertEqual([run.words_of(words).window for words in asked], [200_000, 0, 9, 200_000, 0])
 
     def test_an_interrupt_at_the_terminal(self):
         """It ends the run, and no judge of a window."""

@@ -242,6 +242,16 @@ class Journal:
         return self.names.get(comm)
 
 
+def begin_first(folder: Path) -> None:
+    """If the run ended before rank 0 had a journal, it gets one without calls: `judge' asks for one."""
+    others = (mapped(path) for path in sorted(folder.glob("journal[0-9]*")))
+    headers = [data[: data.find(b"\n", 0, end)] for data, end in others if end]
+    if headers and not (folder / "journal0").exists():
+        fields = headers[0].split(b" ")
+        with suppress(OSError):
+            (folder / "journal0").write_bytes(b" ".join([*fields[:2], b"0", *fields[3:5], b"o", b"none\n"]))
+
+
 def journals_in(folder, run=None):
     """The journals of all ranks, by rank: as many as the first one that is there says."""
     most = resource.getrlimit(resource.RLIMIT_NOFILE)[1]
@@ -266,7 +276,8 @@ def name_of(word, fields=()):
 class Half(namedtuple("Half", "is_send peer rank tag comm")):
     """What a call sends or receives. Its rank is that in the world, None for nobody and anybody."""
     def text(self):
-        peer = {"null": "nobody", "any": "anybody"}.get(self.peer, f"rank {self.rank}")
+        valid = f"rank {self.rank}" if self.rank is not None else f"the invalid rank {self.peer}"
+        peer = {"null": "nobody", "any": "anybody"}.get(self.peer, valid)
         tag = "any tag" if self.tag == "any" else f"tag {self.tag}"
         return f"{'to' if self.is_send else 'from'} {peer} with {tag}"
 

@@ -17,7 +17,8 @@ from .script import Status, Stopped, grouped, ranks_named, why_of, worst
 
 RED, MOST_ARROWS = "#c0392b", 200
 RULES = {"hang": "A rank waits for ever", "may-hang": "A rank may wait for ever, by what MPI allows",
-         "different-calls": "The ranks disagree on a collective call"}  # fmt: skip
+         "different-calls": "The ranks disagree on a collective call",
+         "failed": "A call of MPI failed"}  # fmt: skip
 # The outcome of a test by its status.
 OUTCOMES = ("", "failure", "error", "error", "error", "skipped", "skipped", "failure", "failure")
 # Those of runs that aren't judged, and their level in SARIF.
@@ -66,6 +67,7 @@ def results(story):
     found = [(rule, stuck_lines(one), one.call) for one in (story.stuck if hangs else [])]
     found += [("different-calls", [f"error: {error_of([one])}", *difference_lines([one])], one.first)
               for one, *_ in grouped(story.differences, key_of)]  # fmt: skip
+    found += [("failed", [one.text()], one.call) for one in story.failures]
     for rule, lines, call in found:
         text = {"text": "\n".join(line.strip() for line in lines)}
         result = {"ruleId": rule, "level": "warning" if rule == "may-hang" else "error", "message": text}

@@ -80,7 +80,25 @@ def lines_of(module, offsets):
         known = int(number) if number.isdecimal() and not path.startswith("??") else 0
         frame = Frame(path, known, "" if line == "??" else line, names.get(offset, ""))
         found.setdefault(offset, []).append(frame)
+    unknown = [offset for offset in offsets if not any(frame.line for frame in found.get(offset, []))]
+    functions = functions_at(module, unknown) if unknown else {}
+    found |= {offset: [Frame(function=functions.get(offset, ""), other=names[offset])] for offset in unknown}
     return {offset: found.get(offset) or [Frame(other=name)] for offset, name in names.items()}
+
+
+def functions_at(module: str, offsets: list[int]) -> dict[int, str]:
+    """The functions that contain these offsets, by the sizes of symbols. Without lines addr2line names the
+    nearest symbol before them, which in a stripped module is that of another function."""
+    found = {}
+    for more in ([], ["-D"]):
+        words = ["nm", "-C", "-S", "--defined-only", *more, module]
+        with suppress(OSError):
+            said = subprocess.run(words, capture_output=True, check=False).stdout
+            for symbol in re.finditer(rb"^([0-9a-f]+) ([0-9a-f]+) [TtWwi] (.+)$", said, re.MULTILINE):
+                start, size = int(symbol[1], 16), int(symbol[2], 16)
+                inside = [offset for offset in offsets if start <= offset < start + size]
+                found |= dict.fromkeys(inside, os.fsdecode(symbol[3]))
+    return found
 
 
 def printable(text):

@@ -8,7 +8,7 @@ import subprocess
 from contextlib import suppress
 from pathlib import Path
 
-from .script import HERE, Status, Stopped
+from .script import HERE, Status, Stopped, say
 
 SOURCES = HERE.parent / "record"
 LAUNCHER = re.compile(r"(.*/)?(mpirun|mpiexec|orterun|prterun)[^/]*")
@@ -76,6 +76,8 @@ def make_recorder(library):
     if not names:
         raise Stopped(f"there is no mpicc of {library} to build the recorder with", Status.WORDS)
     out = folder_of_recorder(library)
+    if not (out / "record.so").exists():
+        say(f"building the recorder for {library}, once")
     command = ["make", "-s", "-C", SOURCES, f"MPICC={names[0]}", f"OUT={out}"]
     if subprocess.run(command, stdout=2, stdin=subprocess.DEVNULL, check=False).returncode:
         raise Stopped(f"the recorder for {library} can't be built in {out}", Status.WORDS)

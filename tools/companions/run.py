@@ -6,6 +6,7 @@ import os
 import shlex
 import shutil
 import time
+from argparse import SUPPRESS, Action, ArgumentParser
 from pathlib import Path
 
 from .outputs import OUTPUTS, remove_old, report, runs_in
@@ -17,30 +18,47 @@ from .windows import Judging, Windows, kept_runs, stories_of
 
 TEXT = """Records a run of an MPI program, judges it, and reports which calls wait, with lines of code.
 
-    tools/run [OPTIONS] mpirun -n 4 ./program
-    tools/run [OPTIONS] --again
+    mpiwait run [OPTIONS] mpirun -n 4 ./program
+    mpiwait run [OPTIONS] --again
 
 The status is 0 free, 1 hang, 2 refused, 3 words, folder or installation, 4 something couldn't be recorded,
-judged or written, 5 unfinished, 6 not judged, 7 calls or roots of one collective differ, 8 the program
+judged or written, 5 unfinished, 6 not judged, 7 the ranks disagree on a collective call, 8 the program
 failed. MPIWAIT names a checker."""
 # The lines of a window, by default and at most; a journal has 1,000,000 calls. With 0 there are no windows.
 LINES, MOST_LINES = 200_000, 800_000
-LIMITS = """Finds the least N of --eager N at which a recorded run can't hang. FOLDER is that of tools/run.
+LIMITS = """Finds the least N of --eager N at which a recorded run can't hang. FOLDER is that of
+`mpiwait run'.
 
 It judges by 0 and by sizes of standard sends, since between two of these no verdict changes: by halves, or
 all if ranks were cut off. The status is 0 if some limit is free, else 1 if some hangs, else 5; 2, 3 and 4
-are as for tools/run. Of windows it judges those that are kept. The status is 6 if others weren't judged
+are as for `mpiwait run'. Of windows it judges those that are kept. The status is 6 if others weren't judged
 strictly with that limit, or calls weren't recorded that recorded ones may match."""
 
 
+class ShowVersion(Action):
+    """Shows the version that the program has too."""
+    def __call__(self, parser: ArgumentParser, *of_option: object) -> None:
+        print((HERE.parent / "texts/version").read_text(encoding="ascii"), end="")
+        parser.exit()
+
+
+def add_times(add) -> None:
+    """The options that take seconds, by their names and by their old ones, which no help shows."""
+    add("--timeout", type=float, dest="limit", metavar="SECONDS", help="end the run after that time")
+    add("--for", type=float, dest="limit", help=SUPPRESS)
+    stands = "report ranks that make no call for so long, and are deadlocked"
+    add("--stalled", type=float, default=10, metavar="SECONDS", help=stands)
+    add("--quiet", type=float, dest="stalled", default=10, help=SUPPRESS)
+
+
 def words_of(argv):
-    parser = Words(TEXT, prog="run", usage="run [OPTIONS] (COMMAND .. | --again)")
+    parser = Words(TEXT, prog="mpiwait run", usage="mpiwait run [OPTIONS] (COMMAND .. | --again)")
     add = parser.add_argument
     add("--again", action="store_true", help="judge the recording in FOLDER, and run nothing")
-    add("--unproved", action="store_true", help="judge by the checker's code before its proof")
+    add("--version", action=ShowVersion, nargs=0, help="show the version")
+    add("--unproved", action="store_true", help="judge by the reference, if no proved program is built")
     add("--folder", type=Path, default="mpiwait-run", help="where the recording goes")
-    add("--for", type=float, dest="limit", metavar="SECONDS", help="end the run after that time")
-    add("--quiet", type=float, default=10, metavar="SECONDS", help="report ranks that wait so long")
+    add_times(add)
     add("--stop", action="store_true", help="end the run when ranks wait for ever")
     add("--frames", type=int, choices=range(17), metavar="N", help="note N callers of each call (default: 1)")
     add("--mpi", choices=("mpich", "openmpi"), help="the MPI library, if the command doesn't show it")
@@ -55,23 +73,22 @@ def words_of(argv):
     words.files = {name: getattr(words, name) for name in OUTPUTS if getattr(words, name)}
     words.unproved = words.unproved and not os.environ.get("MPIWAIT")
     words.command = words.command[words.command[:1] == ["--"] :]
-    if not (1 if words.limit is None else words.limit) > 0 or not words.quiet > 0:
-        parser.error("--for and --quiet take a number of seconds above 0")
+    if not (1 if words.limit is None else words.limit) > 0 or not words.stalled > 0:
+        parser.error("--timeout and --stalled take a number of seconds above 0")
     if len(set(map(os.path.abspath, words.files.values()))) < len(words.files):
         parser.error("two outputs can't have one file")
     if not 0 <= (words.eager or 0) <= MOST_BYTES:
         parser.error(f"--eager takes a number of bytes up to {MOST_BYTES}")
     if not 0 <= (words.window or 0) <= MOST_LINES:
         parser.error(f"--window takes a number of lines up to {MOST_LINES}")
-    if words.window and words.unproved:
-        parser.error("--window doesn't go with --unproved")
     if words.window is None:
-        words.window = 0 if words.unproved or words.again else LINES
+        words.window = 0 if words.again else LINES
     if not words.again and not words.command:
-        parser.error("which run? As in: tools/run mpirun -n 4 ./program; --help says more")
+        parser.error("which run? As in: mpiwait run mpirun -n 4 ./program; --help says more")
     given = [words.command, words.limit, words.frames is not None, words.mpi, words.strict, words.stop]
     if words.again and any([*given, words.window]):
-        parser.error("--again runs nothing: no command, --for, --frames, --mpi, --strict, --stop, --window")
+        parser.error("--again runs nothing: no command, --timeout, --frames, --mpi, --strict, --stop, "
+                     "--window")  # fmt: skip
     return words
 
 
@@ -88,11 +105,16 @@ def hold(folder):
     return held
 
 
-def make_folder(folder):
-    """An empty folder. One of the program's own is never touched."""
-    mark = folder / ".mpiwait-run"
-    if os.path.lexists(folder) and not mark.exists():
+def look_at_folder(folder):
+    """One of the program's own is never touched."""
+    if os.path.lexists(folder) and not (folder / ".mpiwait-run").exists():
         raise Stopped(f"{folder} is there, and no run made it: name another by --folder", Status.WORDS)
+
+
+def make_folder(folder):
+    """An empty folder, but for a mark that a run made it."""
+    mark = folder / ".mpiwait-run"
+    look_at_folder(folder)
     folder.mkdir(parents=True, exist_ok=True)
     held = hold(folder)
     for one in folder.iterdir():
@@ -103,23 +125,39 @@ def make_folder(folder):
     return held
 
 
+class Failures:
+    """What the recorder noted of calls that failed. What fails once this script ends it doesn't count."""
+    def __init__(self, folder: Path) -> None:
+        self.folder, self.before = folder, None
+
+    def found(self) -> set[Path]:
+        return set(self.folder.glob("failed*")) | set(self.folder.glob("run-*/failed*"))
+
+    def note(self) -> None:
+        self.before = self.found()
+
+    def drop(self) -> None:
+        for path in self.found() - self.before if self.before is not None else ():
+            path.unlink(missing_ok=True)
+
+
 def main(argv):
     words, began, status, found = words_of(argv), time.monotonic(), 0, {}
-    folder, program = Path(os.path.abspath(words.folder)), HERE.parent.parent / "crates/mpiwait/out/mpiwait"
+    folder = Path(os.path.abspath(words.folder))
     remove_old(words.files.values())
-    if words.unproved and not os.access(program, os.X_OK) and not shutil.which("rt"):
-        raise Stopped("there is no command rt of the Rattle kit, which builds the checker", Status.WORDS)
     if not words.again:
+        look_at_folder(folder)
         library, frames = words.mpi or library_of(words.command), 1 if words.frames is None else words.frames
         run = with_recorder(words.command, library, folder / "journal", frames, words.strict, words.window)
-        if not words.unproved:
-            Judge().try_out(words.window)
+        Judge(words.unproved).try_out(words.window)
         make_folder(folder)
-        alarm = Alarm(folder / "journal", Judge(nice=1), words.quiet, words.stop)
-        judging = Judging(folder / "journal", Judge(nice=10), words.keep, words.eager)
+        alarm = Alarm(folder / "journal", Judge(words.unproved, nice=1), words.stalled, words.stop)
+        judging = Judging(folder / "journal", Judge(words.unproved, nice=10), words.keep, words.eager)
         judging.thread.start() if words.window else None
-        looks = [] if words.unproved else [judging.look, alarm.look]
-        status, was_ended = run_command(*run, words.limit, lambda: any([look() for look in looks]))
+        looks, failures = [judging.look, alarm.look], Failures(folder / "journal")
+        watch = [words.limit, lambda: any([look() for look in looks]), failures.note]
+        status, was_ended = run_command(*run, *watch)
+        failures.drop()
         found = judging.end() if words.window else {}
         if status and not was_ended:
             say(f"the run ended with status {status}")
@@ -133,7 +171,7 @@ def main(argv):
         raise Stopped("nothing was recorded: no rank came through MPI_Init with the recorder; if it runs on "
                       "other machines, see `several machines' in tools/README.md")  # fmt: skip
     judge, name = Judge(words.unproved), shlex.join(words.command) or str(folder)
-    more = {"eager": words.eager, "is_short": words.unproved, "program_status": status}
+    more = {"eager": words.eager, "program_status": status}
     more |= {"name": name, "seconds": time.monotonic() - began}
     stories = [story for one in runs for story in stories_of(one, judge, found.get(one), **more)]
     return report(stories, words.files)
@@ -166,7 +204,8 @@ def try_limits(runs):
 
 
 def limits_main(argv):
-    parser = Words(LIMITS, prog="limits")
+    parser = Words(LIMITS, prog="mpiwait limits")
+    parser.add_argument("--version", action=ShowVersion, nargs=0, help="show the version")
     parser.add_argument("folder", metavar="FOLDER", type=Path)
     folder = parser.parse_args(argv).folder
     if (folder / "journal").is_dir():

@@ -2,6 +2,7 @@
 
 import json
 import os
+import re
 import subprocess
 import sys
 import tempfile
@@ -11,8 +12,8 @@ from contextlib import suppress
 from functools import cached_property, lru_cache
 from pathlib import Path
 
-from .differing import differences_of, held_by_them
-from .journals import COUNTED, RECEIVES, STANDARD, Call, Half, journals_in, top_of, written
+from .differing import differences_of
+from .journals import COUNTED, RECEIVES, STANDARD, Call, Half, journals_in, mapped, top_of, unescaped, written
 from .places import Places, printable
 from .script import ENDING, HERE, Status, Stopped, worst
 
@@ -22,6 +23,9 @@ VERDICTS = {0: "free", 1: "hang", 5: "unfinished"}
 Answer = namedtuple("Answer", "status report said", defaults=(None, ""))
 MATCHED = {"mprobe", "improbe"}  # they take messages, for which other requests may stand
 WITHIN = ("in {}, which isn't recorded", "in a call that isn't recorded: {}")  # by its name, or other words
+# What the script mpiwait says where the reference answers.
+UNVERIFIED = "mpiwait: the checker that produced this answer has not been verified"
+NOTED: list[str] = []  # such a line, once it was written
 
 
 class Run:
@@ -47,6 +51,8 @@ class Run:
         self.made, self._calls = lru_cache(None)(self._made), {}
         self.sent, self.received = lru_cache(None)(self._sent), lru_cache(None)(self._received)
         self.collectives = lru_cache(None)(lambda rank, comm: list(self.journals[rank].collectives_on(comm)))
+        self.failures = [Failure(self, rank, line) for rank in self.ranks
+                         for line in written(self.top / f"failed{rank}")]  # fmt: skip
 
     def count(self, meaning):
         """How many calls weren't recorded; with P they may match recorded ones."""
@@ -116,6 +122,33 @@ class Run:
     def world_rank(self, rank, comm, peer):
         members = () if peer in ("null", "any") else self.made(rank, comm)[0]
         return members[int(peer)] if members and 0 <= int(peer) < len(members) else None
+
+
+class Failure:
+    """What failed in a rank by an error of the program, as the recorder notes it: a call, and why."""
+    FORM = re.compile(r"(error|threads) (\d+) (\w+) (.*)", re.DOTALL)
+
+    def __init__(self, run: Run, rank: int, line: str) -> None:
+        self.kind, site, name, text = self.FORM.fullmatch(line).groups()
+        self.rank, self.call, self.note = rank, Call(run, rank, f"{name} @{site}"), unescaped(text)
+        found = re.search(r"\b(MPI_\w+)\(", self.note)  # where the library's own functions have no names
+        self.call.name = name if name != "MPI" else found[1] if found else "a call of MPI"
+        self.other = Call(run, rank, f"call @{text}") if self.kind == "threads" else None
+
+    def message(self) -> str:
+        """MPI's message in one line. MPICH's first line names the class, and the last one the detail."""
+        lines = [line for line in self.note.split("\n") if line]
+        first = lines[0].removesuffix(", error stack:") if lines else "no message"
+        last = re.sub(r"^\S*\(\w*\)[.]*: ", "", lines[-1]) if len(lines) > 1 else first
+        has_detail = last not in first and not last.endswith(") failed")
+        return printable(last if last.startswith(first) else f"{first} ({last})" if has_detail else first)
+
+    def text(self) -> str:
+        if self.kind == "error":
+            return f"{self.call.placed()} failed, and MPI ended the run: {self.message()}"
+        where = f" at {self.other.where}" if self.other.where else ""
+        return (f"{self.call.placed()} was called while another thread was in the call{where}, "
+                "which MPI allows with MPI_THREAD_MULTIPLE only")  # fmt: skip
 
 
 class Stuck:
@@ -229,6 +262,16 @@ class View:
         return any(call.word in words for one in self.stuck.values() for call in one.calls)
 
 
+def without_note(said: str) -> str:
+    """What a checker wrote to standard error, without that it isn't verified. The first such line is
+    written."""
+    notes = [line for line in said.splitlines(keepends=True) if line.startswith(UNVERIFIED)]
+    if notes and not NOTED:
+        NOTED.append(notes[0])
+        sys.stderr.write(notes[0])
+    return "".join(line for line in said.splitlines(keepends=True) if line not in notes)
+
+
 class Judge:
     """The program that MPIWAIT names, or else the repository's. Ctrl-C at a terminal ends no nice one."""
     def __init__(self, unproved=False, nice=0):
@@ -244,8 +287,8 @@ class Judge:
         return subprocess.run(command, cwd=folder, check=False, start_new_session=self.is_nice, **more)
 
     def try_out(self, has_windows=False):
-        """Judges a run of one rank that makes no call. It may have to be built for that, which it says."""
-        self.errors = None
+        """Judges a run of one rank that makes no call. Another checker may say something meanwhile."""
+        self.errors = None if os.environ.get("MPIWAIT") else subprocess.PIPE
         for end in ("finalize", "cut") if has_windows else ("finalize",):
             with tempfile.TemporaryDirectory() as folder:
                 Path(folder, "journal0").write_text(f"journal 2 0 1 a-run o a-library\n{end}\n")
@@ -265,13 +308,17 @@ class Judge:
             raise Stopped(f"the checker {self.path} can't be run: {fault.strerror}") from None
         if ENDING:
             raise Stopped("it was interrupted")
+        errors = without_note(done.stderr or "")
         if done.returncode in VERDICTS:
-            sys.stderr.write(done.stderr or "")  # that the checker isn't proved
+            sys.stderr.write(errors)
             with suppress(ValueError):
                 return Answer(done.returncode, json.loads(done.stdout))
             raise Stopped(f"the checker {self.path} answered by status {done.returncode} without a report")
         status = done.returncode if done.returncode in (Status.REFUSED, Status.WORDS) else 4
-        said = (done.stdout + (done.stderr or "")).strip()
+        said = (done.stdout + errors).strip()
+        empty = re.match(r"refused rank (\d+) line 1 J1 ", said)
+        if empty and not mapped(Path(folder) / f"journal{empty[1]}")[1]:  # the recorder made the file alone
+            return Answer(Status.IMPOSSIBLE, None, f"the disk had no room for the journal of rank {empty[1]}")
         return Answer(status, None, said or str(subprocess.CalledProcessError(done.returncode, self.path)))
 
 
@@ -293,18 +340,17 @@ class Judgement:
     strict: the calls wait as long as MPI lets them; went: where the ranks were when recording was cut off;
     pass: as strict, but tests wait for nothing; buffered: as strict, with all messages buffered."""
 
-    def __init__(self, judge, run, eager=None, is_short=False, program_status=0):
-        self.judge, self.run, self.eager, self.is_short = judge, run, eager, is_short
+    def __init__(self, judge, run, eager=None, program_status=0):
+        self.judge, self.run, self.eager = judge, run, eager
         self.windows = run.windows
+        # What ended the run, in its last window: an error of the program, and its status.
+        self.failures = run.failures if run.folder == run.top or run.windows else []
+        self.program_status = program_status
         self.answers, self.views = {}, {}
         if not run.has_ended:
             self._ask("went", calls="went")
-        went = self.views.get("went")
-        # Calls that differ are found by the strict question: it is asked too where they hold ranks.
-        self.is_short = is_short and not (went and held_by_them(went))
         if all(answer.report for answer in self.answers.values()):
             self._ask("strict")
-        self.is_short = is_short
         self.main = next(iter(self.answers.values()))  # the answer that the report is about
         self.strict, self.went = self.views.get("strict"), self.views.get("went")
         if self.strict and self.strict.report["verdict"] == "hang":
@@ -324,13 +370,12 @@ class Judgement:
         self.shown = self.went if self.went and not self.may_hang else self.rules
         self.verdict = self.shown.report["verdict"] if self.shown else None
         self.differences = differences_of(self.strict or self.shown, self.went)
-        self.program_status, self.status = program_status, self._status(program_status)
+        self.status = self._status()
 
     def _ask(self, name, **options):
-        if not (self.is_short and self.answers):
-            self.answers[name] = self.judge.ask_held(self.run.folder, **{"eager": self.eager, **options})
-            if self.answers[name].report is not None:
-                self.views[name] = View(self.run, self.answers[name].report, is_went=name == "went")
+        self.answers[name] = self.judge.ask_held(self.run.folder, **{"eager": self.eager, **options})
+        if self.answers[name].report is not None:
+            self.views[name] = View(self.run, self.answers[name].report, is_went=name == "went")
 
     def verdicts(self):
         return {name: VERDICTS.get(answer.status) for name, answer in self.answers.items()}
@@ -339,11 +384,11 @@ class Judgement:
         """Whether a window wasn't judged that might hang, as far as is known."""
         return bool(self.windows and self.windows.unjudged() and self.verdict != "hang")
 
-    def _status(self, program_status):
+    def _status(self):
         """The status of the run, of all that was found of it."""
         found = [Status[self.verdict.upper()] if self.shown else self.main.status]
         if self.shown:
             found = [Status.NOT_JUDGED] if self.run.count("P") or self.misses_windows() else found
             found += [Status.DIFFERENT] if self.differences else []
             found += [Status.IMPOSSIBLE] if set(self.unanswered) - {"buffered"} else []
-        return worst(found + ([Status.FAILED] if program_status else []))
+        return worst(found + ([Status.FAILED] if self.program_status or self.failures else []))

@@ -2,6 +2,7 @@
 
 import argparse
 import os
+import re
 import signal
 import sys
 import time
@@ -16,7 +17,9 @@ HERE = Path(__file__).resolve().parent
 # The statuses of all tools. `mpiwait judge` has those up to UNFINISHED.
 Status = IntEnum("S", "FREE HANG REFUSED WORDS IMPOSSIBLE UNFINISHED NOT_JUDGED DIFFERENT FAILED", start=0)
 MOST = 12  # lines of one section, and parts of a list of ranks
-ORDER = "432167580"  # of several statuses the first of these is the script's
+ORDER = "432167850"  # of several statuses the first of these is the script's
+LAUNCHERS = rb"mpirun|mpiexec|orterun|prterun|srun|aprun|jsrun"  # how their names begin
+LEADERS_ALONE = 2  # seconds that a launcher has to end its ranks
 SIGNALS = (signal.SIGINT, signal.SIGTERM, signal.SIGHUP)
 ENDING = []  # the signal that ends the script: from then on no thread starts anything
 
@@ -58,20 +61,57 @@ def fields_of(process):
         return ["X", ""]
 
 
-def end_tree(root, without_root=False):
-    """Ends what was started on this machine, the launcher and the ranks. It ends those on other machines."""
-    parents = {int(one): fields_of(one)[1] for one in os.listdir("/proc") if one.isdecimal()}
-    tree, until = [root], time.monotonic() + 5
+def processes() -> list[int]:
+    return [int(one) for one in os.listdir("/proc") if one.isdecimal()]
+
+
+def text_of(process: int, name: str) -> bytes:
+    """A file of the system about a process; nothing if it has ended, or is another user's."""
+    try:
+        return Path(f"/proc/{process}/{name}").read_bytes()
+    except OSError:
+        return b""
+
+
+def leaders_in(tree: list[int], parents: dict[int, int]) -> list[int]:
+    """The launchers among some processes, and what they were started by."""
+    leaders = set()
+    for process in (one for one in tree if re.match(LAUNCHERS, text_of(one, "comm"))):
+        while process in tree:
+            leaders.add(process)
+            process = parents[process]
+    return [one for one in tree if one in leaders]
+
+
+def end_all(number: int, running: list[int], seconds: float) -> list[int]:
+    """Sends a signal to processes, and answers those that still run after a time."""
+    until = time.monotonic() + seconds
+    for process in running:
+        with suppress(OSError):
+            os.kill(process, number)
+    while running and time.monotonic() < until:
+        time.sleep(0.1)
+        running = [process for process in running if fields_of(process)[0] not in "ZX"]
+    return running
+
+
+def end_tree(root: int, without_root: bool = False, variable: str = "") -> None:
+    """Ends what was started on this machine. First the launcher, which ends the ranks, here and on other
+    machines: it may crash if they end by themselves. What is still there after 2 seconds is ended too, and
+    each process that has some variable, NAME=VALUE."""
+    parents = {one: int(fields_of(one)[1] or 0) for one in processes()}
+    tree = [root]
     for process in tree:  # which grows
-        tree += [one for one, parent in parents.items() if parent == str(process)]
+        tree += [one for one, parent in parents.items() if parent == process]
     tree = tree[without_root:]
-    for number in (signal.SIGTERM, signal.SIGKILL):
-        for process in tree:
-            with suppress(OSError):
-                os.kill(process, number)
-        while tree and time.monotonic() < until:
-            time.sleep(0.1)
-            tree = [process for process in tree if fields_of(process)[0] not in "ZX"]
+    first = leaders_in(tree, parents) or ([] if without_root else tree[:1])
+    if first:
+        end_all(signal.SIGTERM, first, 0)
+        tree = end_all(0, tree, LEADERS_ALONE)
+    if variable:
+        marked = [one for one in processes() if variable.encode() in text_of(one, "environ").split(b"\0")]
+        tree += [one for one in marked if one not in tree]
+    end_all(signal.SIGKILL, end_all(signal.SIGTERM, tree, 5), 1)
 
 
 def interrupted(ending, _):

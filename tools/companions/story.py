@@ -8,7 +8,7 @@ from .causes import all_causes, cause_sections, finding_lines, other_causes
 from .differing import difference_lines, error_of
 from .journals import COLLECTIVES, STANDARD, STARTED_COLLECTIVES
 from .runs import Judgement, Run, held_in
-from .script import counted, grouped, plural, ranks_named, shortened
+from .script import Status, counted, grouped, plural, ranks_named, shortened
 
 MEANINGS = {
     "P": "Not recorded, and recorded calls may match these calls, so no verdict can be trusted",
@@ -25,6 +25,11 @@ COLLECTIVE = ("A collective call waits until every member calls it. MPI allows t
               "barrier and of those that need all data.")  # fmt: skip
 FREE = " If all messages are buffered, this run is free: tools/limits finds the size from which on it is."
 HANG = " No buffer would cure this: it hangs too if all messages are buffered."
+# The names of standard sends, and what is said if a cause names one that no rank waits for.
+STANDARD_NAMES = re.compile("MPI_(?:I?[Rr]?[Ss]end|I?[Ss]endrecv)\\b")
+NO_WAIT = "No buffer would cure this: no rank waits until a standard send is received."
+NOT_COMPARED = ("Not compared: the operators, datatypes and counts of collectives, their forms with and "
+                "without v, and the datatypes and counts of messages.")  # fmt: skip
 UNFORCED = ("{} on waits for nonblocking collectives ({}). A strict run can't force these to wait for all "
             "members: MPI lets those that don't need all data complete sooner.")  # fmt: skip
 THREADS = ("With MPI_THREAD_MULTIPLE another thread of a rank may call MPI while one waits: nothing is known "
@@ -46,6 +51,7 @@ DID = {
 UNRECORDED = "Processes that weren't recorded, and of which no verdict speaks"
 UNCUT = "Why the recording wasn't cut where it could have been"
 NO_MEETING = "no rank called a barrier, or an allreduce, allgather or alltoall of data, of all ranks"
+FAILURES = "What failed"
 UNTIL_TESTS = "It hangs only if nothing else is done until a test succeeds"
 MANY = "made more than 1,000,000 calls"
 WHYS = {
@@ -74,6 +80,7 @@ class Story(Judgement):
         calls += [call for one in self.differences for call in one.calls.values()]
         cut = [one for one in self.run.journals if one.last and not one.has_ended]
         sites = {(one.rank, one.polls[1] if one.polls else one.last.site) for one in cut}
+        calls += [one.call for one in self.failures]
         self.run.places.look_up(sites | {(call.rank, call.site) for call in calls})
         self.found = finding_lines(self.strict or self.shown) if self.shown else []
         is_of_rules = self.shown is self.rules and self.verdict == "hang" and not self.run.is_strict
@@ -84,7 +91,9 @@ class Story(Judgement):
         self.text = "\n\n".join([self.title, *parts]) + "\n"
 
     def _title(self):
-        """The verdict in words; in doubt, that there is none."""
+        """The verdict in words; in doubt, that there is none; of a program that failed, what failed."""
+        if self.status == Status.FAILED:
+            return self._failed()
         words, doubts = self._words(), self.run.count("P")
         calls = plural(doubts, "call that wasn't", "calls that weren't")
         without = f"(without these: {words.removeprefix('verdict ')})"
@@ -122,6 +131,22 @@ class Story(Judgement):
         call = self.run.journals[rank].calls([line]).get(line) if line > 1 else None
         return f"{said}: {call.placed()}" if call and call.where else said or "no verdict"
 
+    def _failed(self):
+        """What failed; of a program that only ended with a status, how far its ranks came."""
+        if self.failures:
+            return f"failed: rank {self.failures[0].rank}: {self.failures[0].text()}"
+        aborts = [one for one in self.run.journals if one.last and one.last.word == "abort"]
+        if aborts:
+            return f"failed: rank {aborts[0].rank} called {aborts[0].last.placed()}"
+        ended = f"failed: the program ended with status {self.program_status}"
+        ends = {one.rank: one.last.word for one in self.run.journals if one.has_ended and one.last}
+        early = [rank for rank, word in ends.items() if word == "exit"]
+        if len(ends) < len(self.run.ranks):
+            return f"{ended}; {self._unfinished().removeprefix('unfinished: ').partition(';')[0]}"
+        if early:
+            return f"{ended}; {ranks_named(early)} ended without MPI_Finalize"
+        return f"{ended}, although every rank came to its MPI_Finalize"
+
     def _free(self):
         unsaid = self.run.count("W")
         waits = f", as far as recorded: nothing is said of the waits of {plural(unsaid, 'other call')}"
@@ -143,11 +168,16 @@ class Story(Judgement):
 
     def _sections(self):
         found, counts = {}, self.run.unrecorded.items()
+        failed = [f"rank {one.rank}: {one.text()}" for one in self.failures]
+        if failed[1:] and self.status == Status.FAILED:  # the title has the first one
+            yield FAILURES, shortened(failed)
         if self.differences:
             yield "The collective calls that differ", difference_lines(self.differences)
             yield "What the run did", shortened(self._what_it_did(), 24)
         if self.shown:
-            yield from self._causes()
+            causes = list(self._causes())
+            yield from causes
+            self.names_sends = any(STANDARD_NAMES.search(line) for _, lines in causes for line in lines)
             where = [] if self.differences else list(self._where())  # it has been said
             others = "other " if any(map(self._is_told, self.run.ranks)) else ""
             found = {"Findings, which change no verdict": self.found,
@@ -156,6 +186,7 @@ class Story(Judgement):
                      "Calls at which the judgement of a rank ends": self._stops(True),
                      "Receives of which it isn't known what they took": self._stops(False),
                      "Unanswered questions": [": ".join(one) for one in self.unanswered.items()]}  # fmt: skip
+        found[FAILURES] = failed if self.status != Status.FAILED else []
         found["Windows"] = list(self.windows.lines()) if self.windows else []
         found[UNCUT] = list(self._uncut())
         for meaning, title in MEANINGS.items():
@@ -212,12 +243,16 @@ class Story(Judgement):
             size = "any size" if self.eager is None else f"more than {self.eager} bytes"
             cure = {"free": FREE, "hang": HANG}.get(self.verdicts().get("buffered"), "")
             yield SEND.format(size) + cure + (EAGER if self.eager is None else "")
+        elif self.verdict == "hang" and self.names_sends:
+            yield from [] if any(view.rests_on(STANDARD) for view in self.views.values()) else [NO_WAIT]
         elif self.verdict == "hang" and not self.shown.rests_on(STANDARD):
             yield "No buffer would cure this: none of these ranks waits in a standard send."
         if any(self.run.journals[one.rank].header.is_multiple for one in self.stuck):
             yield THREADS
         if self.shown.rests_on(COLLECTIVES - {"barrier"} | STARTED_COLLECTIVES):
             yield COLLECTIVE
+        if self.verdict == "free" and self.status == Status.FREE:
+            yield NOT_COMPARED
 
     def _unforced(self, view):
         """Causes of a strict run that need a nonblocking collective to wait for all its members."""
@@ -250,6 +285,9 @@ class Story(Judgement):
 
     def _place_of(self, rank):
         journal, last = self.run.journals[rank], self.run.journals[rank].last
+        failed = [one for one in self.failures if one.rank == rank and one.kind == "error"]
+        if failed:
+            return f"ended in {failed[0].call.placed()}, which failed"
         within = self.run.within.get(rank, "computing or in a call that isn't recorded")
         now = f"; now {within}" if rank in self.run.within else ""
         if last is None:
@@ -283,6 +321,9 @@ class Story(Judgement):
         for rank, calls in view.left_calls.items():
             stuck = self.shown.stuck.get(rank)
             told = stuck.call.number if stuck and stuck.is_pending else None
+            failed = [one.call.site for one in self.failures if one.rank == rank]
+            whys = {one.number: view.whys[rank][one.number] for one in calls}
+            calls = [one for one in calls if (failed, whys[one.number]) != ([one.site], "failed")]
             for call in (call for call in calls if view.ends_list(call) == ends):
                 why = view.whys[rank][call.number]
                 if why in WHYS and (why, call.number) != ("never came back", told):

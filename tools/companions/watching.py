@@ -98,13 +98,12 @@ class Alarm:
         return True
 
     def _held(self, run: Run, still: Iterable[int]) -> tuple[View | None, set[int]]:
-        """Which of the ranks that stand still wait for ever, whatever calls the others make, and a view of
-        all. Only they may be held, and ranks that called MPI_Finalize, of which all calls are known."""
+        """Which of the ranks that stand still inside a call wait for ever, whatever calls the others make,
+        and a view of all. A rank that called MPI_Finalize makes no further call, asked or not."""
         still = {rank for rank in still if not run.journals[rank].header.is_multiple}  # else threads may call
         if not still or run.count("P"):
             return None, set()
-        over = {one.rank for one in run.journals if one.last and one.last.word == "finalize"}
-        answer = self.judge.ask_held(run.folder, still | over, calls="went")
+        answer = self.judge.ask_held(run.folder, still, calls="went")
         if not self.judge.knows_held:
             self.is_off = True
             say(f"nothing is reported before the run ends: this needs a newer checker than {self.judge.path}")
@@ -133,13 +132,20 @@ def is_in_front():
     return len(fields) > 5 and fields[2] == fields[5]
 
 
-def run_command(command, environment, limit=None, watch=None):
+def run_command(command, environment, limit=None, watch=None, at_end=lambda: None):
     """Its status, and whether it was ended. `watch' is called now and then, and answers whether to end it.
-    Signals end the command and not this script, so that what was recorded is judged."""
+    Signals end the command and not this script, so that what was recorded is judged. `at_end' is called
+    before it is ended."""
     seen, asked, began, child = [], [], time.monotonic(), None
+    variable = next((word for word in command if word.startswith("MPIWAIT_JOURNAL=")), "")
+
+    def is_ending(what):
+        if not seen:
+            at_end()
+        seen.append(what)
 
     def end(number, _):
-        seen.append(number)
+        is_ending(number)
         asked.extend([] if number == signal.SIGINT and is_in_front() else [number])
 
     more = [signal.SIGHUP] if signal.getsignal(signal.SIGHUP) != signal.SIG_IGN else []  # nohup ignores it
@@ -155,11 +161,11 @@ def run_command(command, environment, limit=None, watch=None):
                 limit = asked.append(limit)  # once
             if asked or watch and watch():
                 asked.clear()
-                seen.append(True)
-                end_tree(child.pid)
+                is_ending(True)
+                end_tree(child.pid, variable=variable)
     finally:
         if child and child.returncode is None:  # something failed
-            end_tree(child.pid)
+            end_tree(child.pid, variable=variable)
         for number, handler in before.items():
             signal.signal(number, handler or signal.SIG_DFL)
     return child.returncode if child.returncode >= 0 else 128 - child.returncode, bool(seen)

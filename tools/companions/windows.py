@@ -12,7 +12,7 @@ import threading
 from collections import Counter
 from contextlib import suppress
 
-from .journals import is_closed, journals_in, windows_in
+from .journals import begin_first, is_closed, journals_in, windows_in
 from .outputs import runs_in
 from .runs import Run
 from .script import ENDING, Status, Stopped, plural, say, why_of
@@ -214,6 +214,8 @@ class Judging:
 
 def stories_of(folder, judge, windows, name="a run", **more):
     """What is said of a run: of its windows, if it has any."""
+    for one in [folder, *(folder / str(number) for number in windows_in(folder))]:
+        begin_first(one)
     if not windows_in(folder):
         return [Story(folder, judge, name, **more)]
     windows = windows or Windows(folder, judge, keeps=True, eager=more.get("eager"))

@@ -2,7 +2,8 @@
  *
  *   record.c          how the recording begins and ends, and calls that are only counted
  *   turns.c           when a call of the program begins and returns, and in which thread
- *   errors.c          error handlers
+ *   errors.c          error handlers of the program
+ *   fatal.c           errors that end the run
  *   communicators.c   communicators and their numbers
  *   completions.c     waits and tests
  *   starts.c          requests, as they are started, freed and cancelled
@@ -58,6 +59,8 @@ typedef struct {
     unsigned long turn;
     int site;
     bool has_barrier;
+    bool has_failed; /* an error handler of the program came back to the call */
+    bool is_hidden;  /* and yet the library returned MPI_SUCCESS */
     MPI_Comm barrier;
 } Thread;
 extern __thread Thread thread __attribute__((tls_model("initial-exec")));
@@ -110,7 +113,15 @@ void enter_recorder(void);
         enter_recorder(); \
         result_; \
     })
-#define CALL(Name, args) OUTSIDE(REAL(Name) args)
+
+/* A call that an error handler came back to has failed, although MPICH returns MPI_SUCCESS after one in C++:
+ * then it is taken for MPI_ERR_OTHER, until `over` gives the program what the library returned. */
+int returned(int result);
+#define CALL(Name, args) \
+    ({ \
+        int returned_ = OUTSIDE(REAL(Name) args); \
+        thread.has_failed ? returned(returned_) : returned_; \
+    })
 
 /* The call returns this result. */
 int over(int result);

@@ -365,14 +365,19 @@ static bool put_header(void) {
     return true;
 }
 
-static const char *begin_journal(int rank, int window, bool is_first) {
-    static const char no_room[] = "there is no room for its journal";
-    char folder[sizeof run.folder + 16];
+/* The folder of a window, or that of the run. */
+static const char *folder_of(int window) {
+    static char folder[sizeof run.folder + 16];
     snprintf(folder, sizeof folder, window ? "%s/%d" : "%s", run.folder, window);
     if (window)
         mkdir(folder, 0777);
+    return folder;
+}
+
+static const char *begin_journal(int rank, int window, bool is_first, bool is_hidden) {
+    static const char no_room[] = "there is no room for its journal";
     journal = (Journal){.rank = rank, .number = window};
-    journal.file = create_text(folder, "journal", rank);
+    journal.file = create_text(is_hidden ? run.folder : folder_of(window), is_hidden ? "next" : "journal", rank);
     if (journal.file < 0)
         return errno == EEXIST ? "an MPI program before it was recorded in the same folder"
                                : "no journal can be made in the folder that MPIWAIT_JOURNAL names";
@@ -389,14 +394,14 @@ const char *journal_open(const char *folder, const char *id, int rank, int ranks
     snprintf(run.id, sizeof run.id, "%s", id);
     snprintf(run.library, sizeof run.library, "%s", library);
     run.ranks = ranks;
-    return begin_journal(rank, window, true);
+    return begin_journal(rank, window, true, false);
 }
 
 /* ---- Windows ----------------------------------------------------------------------------------- */
 
 bool journal_begin_window(void) {
     Journal old = journal;
-    const char *why = begin_journal(old.rank, old.number + 1, false);
+    const char *why = begin_journal(old.rank, old.number + 1, false, false);
     next = journal;
     journal = old;
     if (why)
@@ -418,6 +423,121 @@ void journal_cut(void) {
         close(journal.file);
     journal = next;
     journal_begin();
+}
+
+/* ---- A cut that is made later ------------------------------------------------------------------ */
+
+/* What was so at the place that is remembered. Meanwhile the other journal is in `next`. */
+static struct {
+    off_t place;
+    long calls;
+    unsigned long lines;
+    __typeof__(call) call;
+} remembered;
+
+static void swap_journals(void) {
+    Journal other = next;
+    next = journal;
+    journal = other;
+}
+
+bool journal_remember(void) {
+    Journal old = journal;
+    if (!old.is_open || journal_is_full || !has_room(0, NULL))
+        return false;
+    const char *why = begin_journal(old.rank, old.number + 1, false, true);
+    next = journal;
+    journal = old;
+    if (why) {
+        journal_forget();
+        return false;
+    }
+    remembered.place = place();
+    remembered.calls = journal.calls;
+    remembered.lines = lines;
+    remembered.call = call;
+    swap_journals();
+    journal_begin();
+    return true;
+}
+
+void journal_go_on(void) {
+    swap_journals();
+    call = remembered.call;
+    lines = remembered.lines;
+}
+
+static void path_of(char path[sizeof run.folder + 64], const char *folder, const char *name) {
+    snprintf(path, sizeof run.folder + 64, "%s/%s%d", folder, name, journal.rank);
+}
+
+static void close_texts(Journal *old) {
+    if (old->window)
+        munmap(old->window, old->size);
+    if (old->header)
+        munmap(old->header, sysconf(_SC_PAGESIZE));
+    if (old->file >= 0 && is_still_ours(old->file, &old->identity))
+        close(old->file);
+    old->is_open = false;
+}
+
+void journal_forget(void) {
+    char path[sizeof run.folder + 64];
+    path_of(path, run.folder, "next");
+    close_texts(&next);
+    unlink(path);
+}
+
+/* Adds what the journal has from the remembered place on to the next one. */
+static bool copy_rest(off_t end) {
+    char block[LONGEST_LINE];
+    int from = journal.file;
+    ssize_t got = 1;
+    swap_journals();
+    for (off_t at = remembered.place; at < end && got > 0; at += got) {
+        size_t size = end - at < (off_t)sizeof block ? (size_t)(end - at) : sizeof block;
+        got = journal.is_open && has_room(0, NULL) ? pread(from, block, size, at) : 0;
+        if (got > 0)
+            journal.at = (char *)memcpy(journal.at, block, got) + got;
+    }
+    swap_journals();
+    return got > 0;
+}
+
+/* Ends the text of a journal at the remembered place. */
+static void end_there(Journal *old, int count, const Field *moved) {
+    off_t at = remembered.place;
+    char line[64];
+    *old->state = 'o';
+    if (ftruncate(old->file, at) != 0)
+        return;
+    for (int i = 0; i <= count; i++) {
+        char *end = i < count ? put_number(stpcpy(line, "=moved "), moved[i]) : stpcpy(line, "cut");
+        *end++ = '\n';
+        if (!may_have(at + (end - line)) || pwrite(old->file, line, end - line, at) != end - line)
+            return;
+        at += end - line;
+    }
+}
+
+/* Last the old journal gets its end: if the rank is killed before, its lines are there all the same. */
+void journal_cut_there(int count, const Field *moved) {
+    char from[sizeof run.folder + 64], to[sizeof run.folder + 64];
+    off_t end = place();
+    bool is_ours = journal.is_open && !journal_is_full && is_still_ours(journal.file, &journal.identity);
+    path_of(from, run.folder, "next");
+    path_of(to, folder_of(next.number), "journal");
+    if (!is_ours || !next.is_open || !copy_rest(end) || rename(from, to) != 0) {
+        journal_forget();
+        return;
+    }
+    swap_journals();
+    journal.calls += next.calls - remembered.calls;
+    call.begin += place() - end;
+    call.first_end += place() - end;
+    set_state(*next.state);
+    end_there(&next, count, moved);
+    close_texts(&next);
 }
 
 unsigned long journal_lines(void) { return lines; }

@@ -1,10 +1,11 @@
 /* What a rank writes while it runs. An unproved companion of mpiwait, like all of tools/.
  *
- * Each rank has four texts in the folder of the run:
+ * Each rank has these texts in the folder of the run:
  *   journalR  one line for each call, written when it begins; lines beginning with `=` for its results
  *   leftR     how often each call was made that has no line
  *   sitesR    the places in the program from which the calls were made
  *   namesR    the names that the program gives to communicators, if it does
+ *   failedR   what failed, if the rank did
  * The first two are mapped files, so the kernel has each byte at once: a rank that is killed leaves all that
  * it wrote. The first byte of a line is written last, so a line is there completely or not at all. Zero bytes
  * follow the last line.
@@ -27,6 +28,10 @@
  * are written as `\xHH`.
  *
  * A line of namesR is the rank's number of a communicator and the name, written in the same way.
+ *
+ * failedR is there if the rank failed, and then has one line. `error SITE NAME TEXT` is the call of MPI in
+ * which an error ended the run, and MPI's message. `threads SITE NAME OTHER` is a call that was made while
+ * another thread was in one, from the site OTHER, although only one thread may call at a time.
  *
  * A recording with windows (windows.h) has the journals of each in a folder of its own: 1, 2, .. in that of
  * the run. The journals of all but the last one end with `cut`.
@@ -75,6 +80,14 @@ const char *journal_open(const char *folder, const char *id, int rank, int ranks
 /* Begins the journal of the next window, if there is room. Lines go to the old one until that is cut. */
 bool journal_begin_window(void);
 void journal_cut(void);
+
+/* Remembers this place, in case that the journal turns out to be cut here. Lines go to the next window's journal,
+ * which nobody sees yet, until `journal_go_on`. Then either this place is forgotten, or all lines since then move
+ * into that journal; the receives of these numbers go on there. */
+bool journal_remember(void);
+void journal_go_on(void);
+void journal_forget(void);
+void journal_cut_there(int count, const Field *moved);
 
 /* How many lines it has, those of earlier windows too. */
 unsigned long journal_lines(void);

@@ -17,6 +17,7 @@
 #define _GNU_SOURCE
 #include "calls.h"
 #include "bypasses.h"
+#include "fatal.h"
 #include "messages.h"
 #include "modules.h"
 #include "strict.h"
@@ -62,6 +63,9 @@ COUNTED_STARTS(X)
 #undef X
 #define X(Name, meaning, params, args) COUNT(Name, meaning, params, args, made_persistent(request))
 COUNTED_INITS(X)
+#undef X
+#define X(Name, meaning, params, args) COUNT(Name, meaning, params, args, watch_window_errors(*win))
+COUNTED_WINDOWS(X)
 #undef X
 
 /* ---- Beginning and end ------------------------------------------------------------------------- */
@@ -154,6 +158,7 @@ static void start(void) {
         return;
     }
     sites_open(folder, rank);
+    fatal_notes_open(folder, rank);
     number_communicators();
     learn_sizes();
     process = getpid();
@@ -161,6 +166,7 @@ static void start(void) {
     windows_count();
     recording = true;
     find_bypasses();
+    watch_errors();
 }
 
 /* Nothing is recorded before `start`, so the calls that MPI itself makes in MPI_Init aren't either. A second
@@ -227,7 +233,7 @@ int MPI_Abort(MPI_Comm comm, int code) {
 ALSO_PMPI(Abort)
 
 /* The program ends without MPI_Finalize. If a thread is inside a call, that call never returns, and the line
- * `exit` isn't written. */
+ * `exit` isn't written. So it is if MPI itself ends the program inside a call. */
 static void ended(int status, void *none) {
     (void)status, (void)none;
     if (!recording || getpid() != process || !last_turn_begins())

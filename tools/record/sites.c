@@ -100,7 +100,7 @@ static uint64_t mixed_with(uint64_t hash, const char *text) {
     return hash;
 }
 
-static void put_name(FILE *file, const char *name) {
+void put_name(FILE *file, const char *name) {
     for (; *name; name++)
         if ((unsigned char)*name < ' ' || *name == 127 || *name == '\\')
             fprintf(file, "\\x%02x", (unsigned char)*name);

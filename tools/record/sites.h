@@ -3,12 +3,16 @@
 #define MPIWAIT_SITES_H
 
 #include <stdbool.h>
+#include <stdio.h>
 
 /* The program doesn't see these names. */
 #pragma GCC visibility push(hidden)
 
 /* The number of the site that is a line of Python code. */
 int site_of_line(const char *file, int line);
+
+/* Writes a name as one line: a backslash, a byte below 32 and the byte 127 as `\xHH`. */
+void put_name(FILE *file, const char *name);
 
 /* Whether the process has Python. */
 bool find_python(void);

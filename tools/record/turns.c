@@ -6,6 +6,7 @@
 #define _GNU_SOURCE
 #include "calls.h"
 #include "bypasses.h"
+#include "fatal.h"
 #include "modules.h"
 #include <time.h>
 
@@ -13,6 +14,7 @@ __thread Thread thread __attribute__((tls_model("initial-exec")));
 unsigned long turn_now;
 
 static unsigned long last_turn;
+static const void *turn_caller; /* where the program made the call that has the turn */
 static bool is_of_first; /* the thread of MPI_Init has the turn */
 
 enum { NEAR = 1 << 16, BUSY_LOOKS = 1000, A_MOMENT = 20000 };
@@ -78,6 +80,7 @@ static const char other_threads[] = "calls of another thread than that of MPI_In
  */
 static void two_at_once(void) {
     if (!several) {
+        note_two_threads(turn_caller);
         journal_take_back();
         turn_now = 0;
         journal_stop("two threads called MPI at once");
@@ -111,6 +114,7 @@ bool take_turn(void) {
     thread.turn = ++last_turn;
     __atomic_store_n(&turn_now, thread.turn, __ATOMIC_RELEASE);
     is_of_first = &thread == first;
+    turn_caller = thread.caller;
     thread.site = -1;
     journal_begin();
     return true;
@@ -162,7 +166,7 @@ bool begins_quietly(void *caller, void *frame) {
         return false;
     thread.frame = frame;
     thread.caller = caller;
-    thread.has_barrier = false;
+    thread.has_barrier = thread.has_failed = false;
     return recording && take_turn();
 }
 
@@ -187,6 +191,11 @@ void enter_recorder(void) {
         give_lock();
 }
 
+int returned(int result) {
+    thread.is_hidden = thread.has_failed && result == MPI_SUCCESS;
+    return thread.is_hidden ? MPI_ERR_OTHER : result;
+}
+
 int over(int result) {
     if (is_recorded()) {
         if (result != MPI_SUCCESS)
@@ -194,7 +203,7 @@ int over(int result) {
         end_turn();
     }
     thread.inside--;
-    return result;
+    return thread.has_failed && thread.is_hidden && result == MPI_ERR_OTHER ? MPI_SUCCESS : result;
 }
 
 /* ---- Barriers of strict runs ------------------------------------------------------------------- */
@@ -245,6 +254,7 @@ Thread leave_by_error(void) {
 /* The call continues, but its lines are already complete. */
 void come_back_to_error(Thread before) {
     thread = before;
+    thread.has_failed = true;
     if (before.turn == 0)
         return;
     take_lock();

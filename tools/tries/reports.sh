@@ -4,7 +4,7 @@
 # What the program and its launcher wrote comes before the report; how often a test found nothing differs from
 # run to run, and so do the names of folders.
 report_in() {
-    sed -n '/^Run 1 of \|^Window \|^error: \|^verdict \|^no verdict\|^not judged\|^refused /,$p' "$1" |
+    sed -En '/^(Run 1 of |Window |error: |failed|verdict |no verdict|not judged|refused )/,$p' "$1" |
         sed "/^Only counted/,/^\$/d; s:$work:WORK:g" |
         sed -E 's/\([0-9,]+ times, found nothing\)/(N times, found nothing)/'
 }

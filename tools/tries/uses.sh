@@ -113,7 +113,7 @@ try_statuses() {
     run_with --for 3 "${command[@]}" computes
     expect_status "$library: a run that is cut off" 5
     run_with "${command[@]}" kills
-    expect_status "$library: a rank that is killed" 5
+    expect_status "$library: a rank that is killed" 8
 }
 
 # ---- Several runs ---------------------------------------------------------------------------------

@@ -135,6 +135,40 @@ try_unrecorded_window() {
     ! grep -q 'was ended' "$work/errors" || fails "$library: windows.c, a rank that isn't recorded: it hung"
 }
 
+# The recorder's own exchanges hold no rank whose calls differ from those of others, or aren't all seen.
+try_differing() {
+    local library=$1 way
+    for way in sizes unseen; do
+        prepare "$library" differing.c 3
+        run_with --window 300 --for 60 "${command[@]}" "$way"
+        check_journals "$library: differing.c $way"
+        if grep -q '^it came to its end' "$work/said" && ! grep -q 'was ended' "$work/errors"; then
+            echo "$library: differing.c $way: it came to its end"
+        else
+            cat -- "$work/said" "$work/errors" >&2
+            fails "$library: differing.c $way: it hung"
+        fi
+    done
+}
+
+# Where an exchange is complete only after a rank went on, the rank cuts its journal where it was.
+try_late_cuts() {
+    local library=$1 name="$1: windows.c, exchanges that come late"
+    prepare "$library" windows.c 3
+    compile "mpicc.$library" "${quiet[@]}" -shared -fPIC -o "$work/late.so" late.c -ldl
+    run_with true 2>/dev/null || :
+    rm -rf -- "$work/run"
+    mkdir -p -- "$work/run/journal"
+    touch -- "$work/run/.mpiwait-run"
+    status=0
+    LD_PRELOAD="$here/record/out/$library/record.so:$work/late.so" MPIWAIT_WINDOW=600 \
+        MPIWAIT_JOURNAL="$work/run/journal" \
+        timeout 120 "${command[@]}" 400 >"$work/said" 2>"$work/errors" </dev/null ||
+        fails "$name: the program failed: $(cat -- "$work/errors")"
+    run_with --again
+    expect_windows "$name" 0 2 'verdict free'
+}
+
 # The most megabytes of the recording while it is made go into `disk', and the time at which a hang is
 # reported into `reported'.
 watch_run() {
@@ -273,5 +307,7 @@ try_windows() {
     try_freed "$library"
     try_phases "$library"
     try_numbers "$library"
+    try_differing "$library"
+    try_late_cuts "$library"
     try_random_windows "$library"
 }

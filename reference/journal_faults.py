@@ -1,9 +1,11 @@
-"""Whether a journal is one: its lines, and what they say of requests, messages and communicators. An unproved
-companion of mpiwait, as all of tools/. A line has at most one fault, the first of WORDS that it has (J6 comes
-before all others); a journal has that of its first line with one.
+"""Whether a journal is one: its lines, and what they say of requests, messages and communicators.
+
+A line has at most one fault, the first of WORDS that it has (J6 comes before all others); a journal has that of its
+first line with one.
 """
 
 import re
+from collections.abc import Iterable
 
 MOST_BYTES = 32_768  # of a line, with its line feed
 MOST_RANKS = 1024
@@ -56,17 +58,17 @@ ENDS = {"finalize", "exit", "cut"}
 class Fault(Exception):
     """A line, from 1, with a code of WORDS."""
 
-    def __str__(self):
+    def __str__(self) -> str:
         line, code = self.args
         return f"line {line} {code} {WORDS[code]}"
 
 
-def lines_of(data):
+def lines_of(data: bytes) -> list[bytes]:
     """The whole lines of a journal's bytes: those before its first zero byte."""
     return data.partition(b"\0")[0].split(b"\n")[:-1]
 
 
-def header_of(lines):
+def header_of(lines: list[bytes]) -> tuple[int, int, bytes, bytes]:
     """The rank, the number of ranks, the name of the run and the state in a first line."""
     found = HEADER.fullmatch(lines[0]) if lines else None
     if lines and len(lines[0]) >= MOST_BYTES:
@@ -76,7 +78,7 @@ def header_of(lines):
     return int(found[1]), int(found[2]), found[3], found[4]
 
 
-def fields_of(line, ranks):
+def fields_of(line: bytes, ranks: int) -> tuple[str, list[str]]:
     """The word and the fields of a line, without its site."""
     if len(line) >= MOST_BYTES:
         raise ValueError("J6")
@@ -94,7 +96,7 @@ def fields_of(line, ranks):
     return word, fields
 
 
-def letters_of(word, fields):
+def letters_of(word: str, fields: list[str]) -> str:
     """One for each field that there has to be."""
     letters = FORMS.get(word, "")
     if letters.endswith("b") and len(fields) < len(letters):
@@ -102,17 +104,17 @@ def letters_of(word, fields):
     return letters + letters[-1] * (len(fields) - len(letters)) if letters.endswith(("R", "W")) else letters
 
 
-def is_formed(letter, field, ranks):
+def is_formed(letter: str, field: str, ranks: int) -> bool:
     return field in NAMES.get(letter, ()) or is_number(
         field, LOWEST[letter], ranks - 1 if letter == "W" else MOST
     )
 
 
-def is_number(field, low, high):
+def is_number(field: str, low: int, high: int) -> bool:
     return NUMBER.fullmatch(field) is not None and low <= int(field) <= high
 
 
-def need(is_right, code):
+def need(is_right: bool, code: str) -> None:
     if not is_right:
         raise ValueError(code)
 
@@ -120,8 +122,9 @@ def need(is_right, code):
 class Request:
     """A request or a message, from the call line that numbers it on."""
 
-    def __init__(self, word, fields, is_message, wildcards, is_receive):
-        self.is_message, self.is_receive, self.moved_at = is_message, is_receive, None
+    def __init__(self, word: str, fields: list[str], is_message: bool, wildcards: list[str]) -> None:
+        self.is_message, self.is_receive = is_message, bool(wildcards)  # those of a receive
+        self.moved_at: int | None = None  # the line that reports so
         self.parent = fields[1] if word == "comm_idup" else None  # of the communicator that it brings
         self.has_wildcard = "any" in wildcards and wildcards[0] != "null"
         self.is_cancelled = self.is_completed = self.has_outcome = self.is_brought = False
@@ -130,19 +133,20 @@ class Request:
 class Checker:
     """Takes the lines of one rank's journal after its header."""
 
-    def __init__(self, rank, ranks, ends_with_cut=False):
+    def __init__(self, rank: int, ranks: int, ends_with_cut: bool = False) -> None:
         self.rank, self.ranks, self.ends_with_cut = str(rank), ranks, ends_with_cut
-        self.moved_wrongly = set()  # lines that report a moved receive which can't be one; other faults come first
+        # Lines that report a moved receive which can't be one; other faults come first.
+        self.moved_wrongly: set[int] = set()
         self.groups = {
             "0": [str(each) for each in range(ranks)],
             "1": [self.rank],
         }  # by the rank's own numbers
-        self.requests = {}  # messages too
-        self.word, self.fields, self.reports = "", [], set()  # of the last call line
-        self.completes = []  # what it completes, if it doesn't fail
+        self.requests: dict[str, Request] = {}  # messages too
+        self.word, self.fields, self.reports = "", list[str](), set[str]()  # of the last call line
+        self.completes: list[str] = []  # what it completes, if it doesn't fail
         self.number = 1
 
-    def take(self, line):
+    def take(self, line: bytes) -> None:
         """Raises the code of the line's fault. Reports of moved receives that can't be are kept in `moved_wrongly'."""
         self.number += 1
         word, fields = fields_of(line, self.ranks)
@@ -154,7 +158,7 @@ class Checker:
 
     # ---- Calls -----------------------------------------------------------------------------------
 
-    def _call(self, word, fields, letters):
+    def _call(self, word: str, fields: list[str], letters: str) -> None:
         if "=failed" not in self.reports:
             self._complete([self.requests[request] for request in self.completes])
         self.word, self.fields, self.reports, self.completes = word, fields, set(), []
@@ -166,7 +170,7 @@ class Checker:
         for letter, field in named:
             if letter in "qm":
                 wildcards = fields[2:4] if word == "irecv" else fields[5:7] if field != fields[0] else []
-                self.requests[field] = Request(word, fields, letter == "m", wildcards, bool(wildcards))
+                self.requests[field] = Request(word, fields, letter == "m", wildcards)
         if word == "cancel":
             self.requests[fields[0]].is_cancelled = True
         elif (
@@ -178,23 +182,23 @@ class Checker:
         elif word == "imrecv":
             self.completes = fields[1:]
 
-    def _complete(self, requests):
+    def _complete(self, requests: list[Request]) -> None:
         for request in requests:
             request.is_completed = True
         self.moved_wrongly |= {request.moved_at for request in requests if request.moved_at}
 
-    def _is_right(self, letter, field):
+    def _is_right(self, letter: str, field: str) -> bool:
         known = self.requests.get(field)
         if letter in "qm" or known is None:
             return letter in "qm" and known is None
         return not known.is_completed and known.is_message == (letter == "n")
 
-    def _is_group(self, group, allowed):
+    def _is_group(self, group: list[str], allowed: Iterable[str]) -> bool:
         return len(set(group)) == len(group) and self.rank in group and set(group) <= set(allowed)
 
     # ---- What is reported ------------------------------------------------------------------------
 
-    def _report(self, word, fields):
+    def _report(self, word: str, fields: list[str]) -> None:
         named = (
             fields
             if word == "=chose"
@@ -217,7 +221,7 @@ class Checker:
         if word == "=chose":
             self.completes = fields
 
-    def _can_have(self, word, fields):
+    def _can_have(self, word: str, fields: list[str]) -> bool:
         """Whether the last call can have this line."""
         if word not in FOLLOW:
             return True
@@ -227,7 +231,7 @@ class Checker:
         is_one = word != "=chose" or self.word != "waitany" or len(fields) == 1
         return not once and is_one and self.word in FOLLOW[word]
 
-    def _fits(self, word, field, request):
+    def _fits(self, word: str, field: str, request: Request) -> bool:
         """Whether the line can say this of a request; of a call that failed nothing was completed."""
         is_back = field in self.completes and "=failed" not in self.reports
         if word == "=chose":
@@ -238,7 +242,7 @@ class Checker:
             return request.is_receive and not request.is_completed and not request.has_outcome
         return (request.has_wildcard if word == "=done" else request.is_cancelled) and not request.has_outcome
 
-    def _new_communicator(self, word, fields, known):
+    def _new_communicator(self, word: str, fields: list[str], known: list[tuple[str, Request]]) -> None:
         group = fields[2:] if word == "=idup" else fields[1:]
         need(fields[0] not in self.groups, "J9")
         is_of_group = word == "=comm" and self.word == "comm_create_group"
@@ -254,14 +258,14 @@ class Checker:
         self.groups[fields[0]] = group
 
 
-def ends_with_cut(lines, ranks):
+def ends_with_cut(lines: list[bytes], ranks: int) -> bool:
     try:
         return len(lines) > 1 and fields_of(lines[-1], ranks)[0] == "cut"
     except ValueError:
         return False
 
 
-def check(lines, rank, ranks):
+def check(lines: list[bytes], rank: int, ranks: int) -> None:
     """Takes the lines of a journal after its header. Raises its first fault."""
     checker = Checker(rank, ranks, ends_with_cut(lines, ranks))
     for number, line in enumerate(lines[1:], 2):

@@ -1,17 +1,20 @@
-"""The communicators of a run's journals, by definition: a part of bench/journals.py.
+"""The communicators of a run's journals.
 
 Each rank numbers its own. Here they are found, numbered for the head, and put into the prefaces of the traces.
 """
 
+from collections.abc import Iterable
 from dataclasses import dataclass
+
+from .heads import Group
+from .journals import Entry, Journal
+from .texts import spelled
+from .traces import COLLECTIVES, STARTED_COLLECTIVES
 
 MOST_COMMUNICATORS = 4095  # of a head, the world not counted
 
 SENDS = {"send": "send", "rsend": "send", "ssend": "ssend", "bsend": "bsend"}
 STARTED_SENDS = {"isend": "isend", "irsend": "isend", "issend": "issend", "ibsend": "ibsend"}
-ROOTED = {"bcast", "gather", "scatter", "reduce"}
-COLLECTIVES = ROOTED | {"barrier", "allgather", "alltoall", "allreduce", "scan", "exscan"}
-STARTED_COLLECTIVES = {"i" + word for word in COLLECTIVES}
 MAKERS = {"comm_dup", "comm_split", "comm_make"}
 IN_WAVES = COLLECTIVES | STARTED_COLLECTIVES | MAKERS | {"comm_idup"}
 # The place of the communicator in the fields of the calls that are on one.
@@ -30,46 +33,51 @@ class Key:
     way: str  # world, alone, made, idup, group, apart
     parent: int
     count: int
-    group: tuple
+    group: Group
+
+
+Wave = tuple[int, int]  # the parent of a call that all members make, and how many of the rank's came before
+At = tuple[int, int]  # a rank, and a line of its journal
 
 
 class Own:
     """What a rank has: places of keys, by its own numbers and in the order in which it got them."""
 
-    def __init__(self, world, alone):
+    def __init__(self, world: int, alone: int) -> None:
         self.local, self.has = {0: world, 1: alone}, [alone]
-        self.idups = {}  # the parent and the number of the call, by request
-        self._counts = {}
+        self.idups: dict[str, Wave] = {}  # by request
+        self._counts: dict[tuple[object, ...], int] = {}
 
-    def count(self, *what):
+    def count(self, *what: object) -> int:
         """How many like this came before."""
         self._counts[what] = self._counts.get(what, -1) + 1
         return self._counts[what]
 
-    def got(self, key, local=None):
+    def got(self, key: int, local: str | None = None) -> None:
         self.has.append(key)
         if local is not None:
             self.local[int(local)] = key
 
 
 class Communicators:
-    def __init__(self, journals):
+    def __init__(self, journals: list[Journal]) -> None:
         self.journals = journals
         self.are_cut = all(journal.ends_with_cut for journal in journals)
-        self.keys = []  # all of them
-        self.places = {}  # of keys in that list
+        self.keys: list[Key] = []  # all of them
+        self.places: dict[Key, int] = {}  # in that list
         self.world = self._place("world", -1, 0, range(len(journals)))
         self.owns = [Own(self.world, self._place("alone", -1, 0, [journal.rank])) for journal in journals]
-        self.named = set()  # by a call other than that which makes it
+        self.named: set[int] = set()  # by a call other than that which makes it
         # By rank and line: of a call that all members make the parent and how many came before; of one that
         # makes a communicator its key.
-        self.waves, self.brings = {}, {}
+        self.waves: dict[At, Wave] = {}
+        self.brings: dict[At, int] = {}
         for journal, own in zip(journals, self.owns):
             for entry in journal.entries:
                 self._call(entry, (journal.rank, entry.line), own)
                 for word, *fields in entry.reports:
                     self._report(word, fields, (journal.rank, entry.line), own)
-        self.in_wave = {}  # by parent and count: the ranks that report a communicator, and its key
+        self.in_wave: dict[Wave, list[tuple[int, int]]] = {}  # the ranks that report a communicator, and its key
         for (rank, line), key in self.brings.items():
             if self.keys[key].way == "made":
                 self.in_wave.setdefault(self.waves[rank, line], []).append((rank, key))
@@ -79,25 +87,25 @@ class Communicators:
         self.numbers = {key: number for number, key in enumerate(self.numbered)}
         self.layers = self._layers()
 
-    def _place(self, way, parent, count, group):
+    def _place(self, way: str, parent: int, count: int, group: Iterable[int | str]) -> int:
         key = Key(way, parent, count, tuple(map(int, group)))
         if key not in self.places:
             self.places[key] = len(self.keys)
             self.keys.append(key)
         return self.places[key]
 
-    def key(self, rank, local):
+    def key(self, rank: int, local: str) -> int:
         return self.owns[rank].local[int(local)]
 
-    def group(self, key):
+    def group(self, key: int) -> Group:
         return self.keys[key].group
 
-    def number(self, key):
+    def number(self, key: int) -> int | None:
         return self.numbers.get(key)
 
     # ---- Which there are ----
 
-    def _call(self, entry, place, own):
+    def _call(self, entry: Entry, place: At, own: Own) -> None:
         if entry.word in ON:
             parent = own.local[int(entry.fields[ON[entry.word]])]
             self.named.add(parent)
@@ -111,7 +119,7 @@ class Communicators:
             self.named.add(self.brings[place])
             own.got(self.brings[place])
 
-    def _report(self, word, fields, place, own):
+    def _report(self, word: str, fields: list[str], place: At, own: Own) -> None:
         if word == "=comm" and place in self.brings:
             own.local[int(fields[0])] = self.brings[place]  # by comm_create_group
         elif word == "=comm":
@@ -122,7 +130,7 @@ class Communicators:
         elif word == "=apart":
             own.got(self._place("apart", -1, own.count("apart", *fields[1:]), fields[1:]), fields[0])
 
-    def _find_untold(self, journal):
+    def _find_untold(self, journal: Journal) -> None:
         """A call that never came back may have made what other ranks report of the same wave."""
         entry = journal.entries[-1]
         is_undefined = entry.word == "comm_split" and entry.fields[1] == "undefined"
@@ -137,16 +145,16 @@ class Communicators:
 
     # ---- Numbers ----
 
-    def _with_numbers(self):
+    def _with_numbers(self) -> list[int]:
         """The keys with a number, from 1 on: by the lowest rank that has them, then by when it got them."""
         wanted = (key for own in self.owns for key in own.has if key in self.named)
         return list(dict.fromkeys(wanted))[:MOST_COMMUNICATORS]
 
-    def head(self):
+    def head(self) -> str:
         groups = ["comm " + spelled(self.group(key)) for key in self.numbered[1:]]
         return "".join(line + "\n" for line in [f"ranks {len(self.journals)}", *groups])
 
-    def preface(self, rank):
+    def preface(self, rank: int) -> list[str]:
         """The lines at the head of its trace by which it gets those that no call on a parent makes."""
         lines = []
         for layer in self.layers:
@@ -157,9 +165,9 @@ class Communicators:
                 lines.append("split 0 undefined 0 none")
         return lines
 
-    def _layers(self):
+    def _layers(self) -> list[list[int]]:
         """Those of the preface by lines: each, by its number, in the first line without a common member."""
-        layers = []
+        layers: list[list[int]] = []
         for key in self.numbered[1:]:
             if self.keys[key].way == "made":
                 continue
@@ -171,7 +179,3 @@ class Communicators:
             else:
                 layers.append([key])
         return layers
-
-
-def spelled(numbers):
-    return " ".join(map(str, numbers))
