@@ -56,7 +56,7 @@ fn held_argument<'a>(alloc: Global) -> Arg<'a>
         .long("held")
         .action(ArgAction::SetTrue)
         .help(
-            "Adds to the JSON report which ranks are held, for a run that still goes on; --held=R,.. asks only for these",
+            "Adds to the JSON report which ranks are held, in a run that still goes on; --held=R,.. asks only for these ranks",
         )
 }
 
@@ -71,7 +71,7 @@ fn held_rank_argument<'a>(alloc: Global) -> Arg<'a>
         .action(ArgAction::Append)
         .value_parser(ValueParser::unsigned(0, RANKS_ASKED as u64 - 1))
         .help(
-            "Asks for this rank, and others that are named so: --held=0,3 is short for two of these",
+            "Asks only for this rank, and for others that are given so; --held=0,3 stands for two of them",
         )
 }
 
