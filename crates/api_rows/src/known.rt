@@ -1,8 +1,12 @@
 //! What is known of how lists go on, and the report with it.
 
+ghost use Rattle.std.specs.Prelude.{◌≤◌, All, length};
+ghost use Rattle.report.specs.declared.judged.TheConstants.{MOST_WORDS};
+
 use crate::answer::Answer;
 use crate::fault::Fault;
 use crate::words::{first_word, number_in, short};
+use findings::finding::Finding;
 use moves::analyser::Analyser;
 use mpicall::memory::MemoryOutput;
 use report::judged::Judged;
@@ -94,6 +98,18 @@ fn sink_in(line: &str) -> Option<Sink> {
     })
 }
 
+/// What a report says in addition to the graph: findings alone.
+fn with_findings(findings: &[Finding]) -> Judged<'_>
+    ensures { All (λ one. length one.why.now ≤ MOST_WORDS) result.left.now }
+{
+    Judged {
+        findings,
+        left: &[],
+        lines: &[],
+        held: None,
+    }
+}
+
 impl Known {
     /// Nothing.
     pub fn new(alloc: Global) -> Known {
@@ -152,17 +168,12 @@ impl Known {
     }
 
     /// Answers the report of the run with it.
-    pub fn tell<'x>(&'x self, answer: &mut Answer, run: &'x Analyser, format: Format) {
+    pub fn tell(&self, answer: &mut Answer, run: &Analyser, format: Format) {
         let Ok(graph) = Graph::of_pending(answer.alloc(), run, &self.pending, &self.sinks) else {
             answer.fail(Fault::Memory);
             return;
         };
-        let judged = Judged {
-            findings: graph.findings(),
-            left: &[],
-            lines: &[],
-            held: None,
-        };
+        let judged = with_findings(graph.findings());
         let run = PendingRun {
             analyser: run,
             graph: &graph,
