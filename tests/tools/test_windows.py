@@ -352,7 +352,7 @@ class Reports(Cut):
                          ["Window 1, the first in which calls differ", "Window 3, the last"])  # fmt: skip
         self.assertEqual([differs.status, last.status], [7, 0])
         self.assertEqual([differs.name, last.name], ["a run, window 1", "a run"])
-        self.assertIn("calls or roots of one collective differ in 1 window", dict(last.sections)["Windows"])
+        self.assertIn("the ranks disagree on a collective in 1 window", dict(last.sections)["Windows"])
 
     def test_why_there_are_no_windows_at_all(self):
         """Only if one would have been due."""

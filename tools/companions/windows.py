@@ -22,7 +22,7 @@ MOST_WAITING, PAUSE = 8, 0.1  # closed windows; seconds
 REMOVED = f"removed without a judgement, since more than {MOST_WAITING} waited"
 FREE = "nobody waits there for ever"
 BY_TESTS = "would hang only if nothing else is done until a test succeeds"
-DIFFER = "calls or roots of one collective differ"
+DIFFER = "the ranks disagree on a collective"
 OTHERWISE = "judged with another --eager, or as they went alone, and aren't kept (--keep keeps them)"
 
 
@@ -31,7 +31,7 @@ class Windows:
     def __init__(self, folder, judge, keeps=False, eager=None):
         self.folder, self.judge, self.keeps, self.eager = folder, judge, keeps, eager
         self.lock, self.closed, self.done, self.odd = threading.RLock(), set(), set(), []
-        self.first = self.differs = None  # those that stay: not free; free, but calls or roots differ
+        self.first = self.differs = None  # those that stay: not free; free, but its collectives disagree
         self.found = Counter()  # how many were judged, their calls, which are by tests alone, ..
         noted = {}
         with suppress(OSError, ValueError):
