@@ -6,7 +6,7 @@ differ, one of them has a bug. It shows no progress (`--progress` is taken, and 
 for what is wrong with a command line.
 
 Where to begin: `heads` and `traces` read a recording, `ranks` says which call a rank can make, `matches` which calls
-meet, `positions` where every run ends, `waits` who waits for whom and who is blocked for ever, `findings` what else is
+meet, `positions` where every run ends, `waits` who waits for whom and who is blocked forever, `findings` what else is
 wrong. `journals` reads what a recorder wrote, `communicators` and `lists` make the recording of it, `cuts` looks at the
 end of a window. `command_line` is the whole program.
 """

@@ -22,7 +22,7 @@ class Calls:
         self.receives: list[tuple[int, Envelope]] = []
         self.probes: list[tuple[int, tuple[Envelope, int]]] = []  # with how many receives of it come before
         self.joins: list[tuple[int, int]] = []
-        self.alone: list[int] = []  # receive what nobody knows, or what a moved receive before them may take
+        self.alone: list[int] = []  # receive an unknown message, or what a moved receive before them may take
         self.moved: list[Moved] = []
         undetermined = list_of_rank.undetermined_by_place()
         for at, (text, line) in enumerate(zip(list_of_rank.lines, list_of_rank.places)):

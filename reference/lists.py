@@ -95,7 +95,7 @@ class List:
         self.left.append((self.line, why))
 
     def stands_for_its_start(self, entry: Entry) -> bool:
-        """As it went, a call that came back waits for nothing any more."""
+        """With `--calls went`, a call that returned waits for nothing."""
         return self.as_it_went and entry.came_back
 
     # ---- Fields ----
@@ -104,7 +104,7 @@ class List:
         return self.communicators.key(self.journal.rank, field)
 
     def can_be(self, comm: str, peer: str, tag: str = "0") -> None:
-        """A peer or root is in the group, or nobody; a tag isn't below 0."""
+        """A peer or root is in the group, or null; a tag isn't below 0."""
         size = len(self.communicators.group(self.key(comm)))
         if peer not in ("null", "any") and not 0 <= int(peer) < size or tag != "any" and int(tag) < 0:
             raise Left("cannot be")
@@ -174,7 +174,7 @@ class List:
 
     def is_undetermined(self, entry: Entry, number: int, message: list[str]) -> bool:
         """Of a blocking receive or a probe. It ends the list if its message isn't known, and also if that may have been
-        taken by an undetermined receive; but as it went, if it came back, it is one more of these."""
+        taken by an undetermined receive; but with `--calls went`, if it returned, it is one more of these."""
         is_untold = "any" in message
         if not is_untold and not self.overlaps(number, message):
             return False

@@ -44,7 +44,7 @@ class Positions:
             self._reach(rank)
 
     def _reach(self, rank: int) -> None:
-        """It stands at another call. Those that waited for that are looked at again."""
+        """It is at another call. Those that waited for that are looked at again."""
         at = self.stands[rank]
         self.work += self.waiters.pop((rank, at), [])
         if (rank, at) in self.matches.wave_of:

@@ -1,4 +1,4 @@
-"""Who waits for whom in a recording, and who is blocked for ever, whatever comes after it.
+"""Who waits for whom in a recording, and who is blocked forever, whatever comes after it.
 
 A rank whose trace ends with `open' may be in a call, its pending one: it waits for all or any of some items, which are
 messages and requests. A receive whose message isn't known is undetermined: its place and the message that it may take

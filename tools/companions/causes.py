@@ -94,7 +94,7 @@ def near_misses(stuck):
 
 @dataclass
 class Cause:
-    """Why some ranks wait for ever: they wait for each other, or for something that never comes."""
+    """Why some ranks are blocked forever: they wait for each other, or for something that never comes."""
 
     ranks: set[int]
     lines: list[str]
@@ -108,9 +108,9 @@ def lacks_for_good(stuck: Stuck) -> bool:
     return bool(is_near) or any(map(stuck.view.is_closed, ranks))
 
 
-def cycle_lines(view: View, cycle: list[int], told: Container[int]) -> Iterator[str]:
+def cycle_lines(view: View, cycle: list[int], reported: Container[int]) -> Iterator[str]:
     ranks, is_long = [view.stuck[rank] for rank in cycle], len(cycle) > MOST_NAMES
-    too = " too" if any(rank in told for rank in cycle) else ""
+    too = " too" if any(rank in reported for rank in cycle) else ""
     if is_long:
         named = [*map(str, cycle[:4]), "..", str(cycle[-1])]
         yield f"{len(cycle)} ranks wait in a cycle{too}{IN_TURN}: {', '.join(named)}:"
@@ -119,7 +119,7 @@ def cycle_lines(view: View, cycle: list[int], told: Container[int]) -> Iterator[
         yield f"ranks {listed(list(map(str, cycle)))} wait for each other{too}{turn}:"
     else:
         yield f"rank {cycle[0]} waits for a later call of its own{too}:"
-    groups = grouped([one for one in ranks if one.rank not in told], place_key if is_long else id)
+    groups = grouped([one for one in ranks if one.rank not in reported], place_key if is_long else id)
     for first, *others in groups[:MOST_NAMES]:
         yield from (f"    {line}" for line in stuck_lines(first))
         if others:
@@ -151,25 +151,25 @@ def all_causes(view: View) -> list[Cause]:
     """The causes of a report: that which blocks most ranks first, and missing calls before cycles."""
     groups = grouped(lacking_ranks(view), alike_key)
     found = [Cause({one.rank for one in group}, list(stuck_lines(*group))) for group in groups]
-    told = {rank for cause in found for rank in cause.ranks}
+    reported = {rank for cause in found for rank in cause.ranks}
     cycles = [one["cycle"] for one in view.report["causes"] if "cycle" in one]
-    cycles = [cycle for cycle in cycles if not rests_on_lack(view, cycle, told)]
+    cycles = [cycle for cycle in cycles if not rests_on_lack(view, cycle, reported)]
     places = {tuple(cycle): tuple(place_key(view.stuck[rank]) for rank in cycle) for cycle in cycles}
     for first, *others in grouped(cycles, lambda cycle: places[tuple(cycle)]):
-        lines = list(cycle_lines(view, first, told))
+        lines = list(cycle_lines(view, first, reported))
         lines += ["and so " + listed(shortened(map(ranks_named, others), MOST_NAMES))] if others else []
         found.append(Cause(set(first).union(*others), lines, True))
-        told |= found[-1].ranks
+        reported |= found[-1].ranks
     starved = [view.stuck[one["starved"]] for one in view.report["causes"] if "starved" in one]
-    for group in grouped([one for one in starved if one.rank not in told], alike_key):
+    for group in grouped([one for one in starved if one.rank not in reported], alike_key):
         found.append(Cause({one.rank for one in group}, list(stuck_lines(*group))))
     return sorted(found, key=lambda cause: (-len(view.waiting(cause.ranks)), cause.is_cycle))
 
 
 def other_causes(view: View, first: View | None) -> list[Cause]:
     """The causes but for those of another view, whose ranks are in the same call, and what these lead to."""
-    told = {rank for cause in all_causes(first) for rank in cause.ranks} if first else ()
-    same = {rank for rank in told if rank in view.stuck
+    reported = {rank for cause in all_causes(first) for rank in cause.ranks} if first else ()
+    same = {rank for rank in reported if rank in view.stuck
             and view.stuck[rank].call.number == first.stuck[rank].call.number}  # fmt: skip
     led = view.waiting(same)
     return [cause for cause in all_causes(view) if led.isdisjoint(cause.ranks)]

@@ -117,12 +117,12 @@ def disagreements(view: View) -> list[Disagreement]:
 
 
 def held_by_them(went: View) -> set[int]:
-    """The ranks that are held as it went, but not by the verdict: so by collective calls that differ."""
+    """The ranks that are held as observed, but not by the verdict: so by collective calls that differ."""
     return went.held if went.report["verdict"] != "hang" else went.held - set(went.stuck)
 
 
 def differences_of(rules: View | None, went: View | None) -> list[Disagreement]:
-    """The disagreements that are found; or the ranks that are held as it went though no call is missing. Then
+    """The disagreements that are found; or the ranks that are held as observed though no call is missing. Then
     the first member of the communicator has no call there, and nothing is found of the others."""
     found = disagreements(rules) if rules else []
     held = held_by_them(went) if went and not found else set()
@@ -131,7 +131,7 @@ def differences_of(rules: View | None, went: View | None) -> list[Disagreement]:
 
 
 def key_of(one: Disagreement) -> tuple:
-    """Disagreements with the same key are told once."""
+    """Disagreements with the same key are reported once."""
     calls = tuple((rank, call.name, call.where, call.root) for rank, call in one.calls.items())
     return one.kind, one.comm == 0, calls or tuple(one.words)
 

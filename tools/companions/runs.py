@@ -99,10 +99,10 @@ class Run:
     def _received(self, rank: int) -> Counter:
         """How many receives a rank has, by the source, tag and members. Wildcards have what they received."""
         calls, found = self.journals[rank].all_calls(), Counter()
-        told = {("=done", one[1]): one[2:] for call in calls for one in call.reports if one[0] == "=done"}
+        done = {("=done", one[1]): one[2:] for call in calls for one in call.reports if one[0] == "=done"}
         for call in (call for call in calls if call.word in RECEIVES - {"probe", "iprobe"}):
             got = next((one[1:] for one in call.reports if one[0] == "=got"), None)
-            got = got or next((told[key] for one in call.requests if (key := ("=done", one)) in told), None)
+            got = got or next((done[key] for one in call.requests if (key := ("=done", one)) in done), None)
             for half in (half for half in call.halves if not half.is_send):
                 peer, tag = got or (half.peer, half.tag)
                 source = self.world_rank(rank, half.comm, peer)

@@ -98,7 +98,7 @@ class Alarm:
         return True
 
     def _held(self, run: Run, still: Iterable[int]) -> tuple[View | None, set[int]]:
-        """Which of the ranks that stand still inside a call wait for ever, whatever calls the others make,
+        """Which of the ranks that make no progress inside a call are held, whatever calls the others make,
         and a view of all. A rank that called MPI_Finalize makes no further call, asked or not."""
         still = {rank for rank in still if not run.journals[rank].header.is_multiple}  # else threads may call
         if not still or run.count("P"):

@@ -39,9 +39,9 @@ def is_sent(view: View, receiver: int, comm: int, source: str, tag: str) -> bool
 
 def begun(view: View, stuck: Stuck) -> Iterator[Call]:
     """The receives that a rank has begun, each with a message that isn't sent where the ranks are."""
-    told = dict(view.run.journals[stuck.rank].open_wildcards(stuck.call.number or 0))
-    for number, call in view.run.calls(stuck.rank, told).items():
-        if number in told and not is_sent(view, stuck.rank, call.comm, *told[number]):
+    wild = dict(view.run.journals[stuck.rank].open_wildcards(stuck.call.number or 0))
+    for number, call in view.run.calls(stuck.rank, wild).items():
+        if number in wild and not is_sent(view, stuck.rank, call.comm, *wild[number]):
             yield call
 
 

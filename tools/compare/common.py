@@ -120,7 +120,7 @@ def counted_in(recording: Path) -> list[str]:
 
 
 def answer_of(result: Result) -> str:
-    """The status in words. A free run that has findings or warnings is told apart."""
+    """The status in words. A free run that has findings or warnings is shown apart."""
     status = result["status"]
     if status is None:
         return "no answer"

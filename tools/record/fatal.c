@@ -3,7 +3,7 @@
  * Under MPI_ERRORS_ARE_FATAL, which is the default, the library ends the program inside the call that failed,
  * and nothing is left to tell which one that was. So a handler of ours takes its place: it notes the call and
  * MPI's message in failedR (journal.h), and then has the library end the program by its own handler. The
- * program never sees ours: if it asks, it is told MPI_ERRORS_ARE_FATAL.
+ * program never sees ours: if it asks, it gets MPI_ERRORS_ARE_FATAL.
  */
 #define _GNU_SOURCE
 #include "fatal.h"

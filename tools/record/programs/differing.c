@@ -1,5 +1,5 @@
 /* differing WAY: programs that run to their end although the recorder doesn't see the same calls of all ranks,
- * behind which it exchanges how far they are. `unseen`: rank 1 calls MPI_Barrier at an address that dlsym gave
+ * after which it exchanges how far they are. `unseen`: rank 1 calls MPI_Barrier at an address that dlsym gave
  * for the library. `sizes`: ranks have other counts of another type.
  */
 #define _GNU_SOURCE

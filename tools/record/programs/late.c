@@ -1,4 +1,4 @@
-// A tool behind the recorder: rank 1 begins some of the recorder's own exchanges later than the others wait.
+// A tool below the recorder: rank 1 begins some of the recorder's own exchanges later than the others wait.
 #define _GNU_SOURCE
 #include <dlfcn.h>
 #include <mpi.h>
