@@ -122,7 +122,7 @@ def held_by_them(went: View) -> set[int]:
 
 
 def differences_of(rules: View | None, went: View | None) -> list[Disagreement]:
-    """The disagreements that are found; or the ranks that are held as observed though no call is missing. Then
+    """The disagreements that are found; or the ranks held as observed though no call is missing. Then
     the first member of the communicator has no call there, and nothing is found of the others."""
     found = disagreements(rules) if rules else []
     held = held_by_them(went) if went and not found else set()
